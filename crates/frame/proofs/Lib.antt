@@ -1,0 +1,4 @@
+pub mod Judged
+pub mod Frames
+pub mod Puts
+pub mod Readback

@@ -1,0 +1,9 @@
+pub mod Areas
+pub mod Codes
+pub mod Fields
+pub mod Flaws
+pub mod Kinds
+pub mod Layout
+pub mod Places
+pub mod Requests
+pub mod Words
