@@ -5,7 +5,7 @@ use mathlib.Core.Path.{_≡_, refl, sym, ap, ap₂, subst, _∙_}
 use Prim.Native.Nat.{ℕ, _≤_}
 use native.Mathlib.Omega.{arith}
 use lib.ListN.{length, getD}
-use Rattle.std.proofs.shelf.Lists.{getD-take, getD-drop, getD-past}
+use Rattle.std.proofs.shelf.Ways.{tells}
 use Rattle.std.specs.declared.option.Option.{Option}
 use Rattle.std.specs.declared.option.Option.the-variants.{Some, None}
 use Rattle.std.specs.declared.result.Result.{Result}
@@ -17,13 +17,14 @@ use Rattle.frame.specs.declared.kinds.Kind.{Kind}
 use Rattle.frame.specs.declared.layout.Flaw.{Flaw}
 use Rattle.frame.specs.Fields.{Bytes}
 use Rattle.frame.specs.Kinds.{kind-byte, kind-of}
-use Rattle.frame.specs.Layout.{Held, framed, opened, length-field}
+use Rattle.frame.specs.Layout.{Held, total, framed, opened, length-field}
 use Rattle.frame.specs.Places.{stop, stop-command, stop-frame}
 use Rattle.frame.specs.Requests.{Request as Asked, Fitting, kind-for, request-data, request-of, wrong-length, misaligned, wrong-parameter}
 use Rattle.frame.proofs.Frames.{opened-framed, framed-back, opened-opens}
 use Rattle.frame.proofs.Judged.{passes}
+use Rattle.frame.proofs.Puts.{length-framed}
 use Rattle.frame.proofs.Readback.{read-back, write-back, kind-back, kind-of-byte, byte-of-kind, data-bytes, data-fitting, length-limit, bytes-part}
-use Rattle.codec.specs.Writing.{frame-for, unstopped, written, passing, Written-frames-pass, Passing-frames-are-written}
+use Rattle.codec.specs.Writing.{frame-for, unstopped, written, passing, Written-frames-pass, Passing-frames-are-written, Frames-fit-the-buffer}
 
 -- three places that let something through
 record Through {X : Type 0} (a b c : Bool) (x y : X) : Type 0 where
@@ -104,3 +105,13 @@ passing-frames-are-written q f bytes e =
           (written-of k (h .bytes) db (t .first) (t .second) (t .third)
           ∙ ap Ok (ap (λ (b : ℕ). framed 0x85 b (h .bytes)) (sym (byte-of-kind (h .tag) k (p .tagged))) ∙ sym (framed-back 0x85 516 f h bytes (p .opening)))),
     )
+
+-- ---- what is written fits
+
+pub frames-fit-the-buffer : Frames-fit-the-buffer
+frames-fit-the-buffer q f e =
+    let d = request-data q in
+    let t = through (wrong-length (kind-for q) (length d)) (misaligned q) (wrong-parameter q) WrongLength NotAligned WrongParameter (frame-for q) f e in
+    let few : length d ≤ 516 = length-limit (kind-for q) (length d) (t .first) in
+    let size : length f ≡ total (length d) = ap length (sym (t .same)) ∙ length-framed 0x85 (kind-byte (kind-for q)) d in
+    grind (arith, tells)

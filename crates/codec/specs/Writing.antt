@@ -1,5 +1,5 @@
 -- The host's writer: which frame a request becomes, and which requests are refused.
-use Prim.Native.Nat.{ℕ}
+use Prim.Native.Nat.{ℕ, _≤_}
 use mathlib.Core.Bool.{Bool, false, cond}
 use mathlib.Core.List.{List}
 use mathlib.Core.Path.{_≡_}
@@ -81,3 +81,7 @@ Written-frames-pass = (q : Asked) (f : List ℕ) → Fitting q → written q ≡
 -- whatever passes is written, for the request that it asks for
 abbrev pub Passing-frames-are-written : Type 0
 Passing-frames-are-written = (q : Asked) (f : List ℕ) → Bytes f → passing f ≡ Ok q → Fitting q × (written q ≡ Ok f)
+
+-- no frame is longer than the least buffer that the writer takes
+abbrev pub Frames-fit-the-buffer : Type 0
+Frames-fit-the-buffer = (q : Asked) (f : List ℕ) → written q ≡ Ok f → length f ≤ 522

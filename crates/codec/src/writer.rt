@@ -9,7 +9,7 @@ ghost use Rattle.frame.specs.Fields.{bytes-of-two, bytes-of-four};
 ghost use Rattle.frame.specs.Kinds.{kind-byte};
 ghost use Rattle.frame.specs.Layout.{framed, headed};
 ghost use Rattle.frame.specs.Requests.{request-data, write};
-ghost use Rattle.codec.specs.Writing.{asking, frame-for, unstopped, demanded, written-within, count-written, left-by, written-count, written-buffer, Written-frames-pass, Passing-frames-are-written};
+ghost use Rattle.codec.specs.Writing.{asking, frame-for, unstopped, demanded, written-within, count-written, left-by, written-count, written-buffer, Written-frames-pass, Passing-frames-are-written, Frames-fit-the-buffer};
 use crate::request::Request;
 use frame::Code;
 use frame::Kind;
@@ -164,6 +164,7 @@ pub fn write_request(request: Request<'_>, buffer: &mut [u8]) -> Result<usize, R
     ensures writes_the_frame_and_no_more { λ _. ⌜ now (buffer .exit) ≡ written-buffer (now (buffer .entry)) (asking (request .entry)) ⌝ }
     ensures written_frames_pass { λ _. ⌜ Written-frames-pass ⌝ }
     ensures passing_frames_are_written { λ _. ⌜ Passing-frames-are-written ⌝ }
+    ensures frames_fit_the_buffer { λ _. ⌜ Frames-fit-the-buffer ⌝ }
 {
     write_checked(request, buffer)
 }

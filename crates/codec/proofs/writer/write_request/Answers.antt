@@ -1,5 +1,5 @@
 use Rattle.codec.specs.Writing.{written-count, written-buffer}
-use Rattle.codec.proofs.Exact.{written-frames-pass, passing-frames-are-written}
+use Rattle.codec.proofs.Exact.{written-frames-pass, passing-frames-are-written, frames-fit-the-buffer}
 use Rattle.codec.proofs.writer.write_request.Needs as need
 
 pub returns : need.returns
@@ -9,4 +9,5 @@ returns c = record {
   writes-the-frame-and-no-more = c .write-checked .ensures .frame;
   written-frames-pass = written-frames-pass;
   passing-frames-are-written = passing-frames-are-written;
+    frames-fit-the-buffer = frames-fit-the-buffer;
 }
