@@ -14,15 +14,8 @@ use Rattle.frame.specs.declared.layout.Flaw.{Flaw}
 use Rattle.frame.specs.Codes.{code-byte, code-of}
 use Rattle.frame.specs.Fields.{Bytes}
 use Rattle.frame.specs.Flaws.{unreadable}
-use Rattle.frame.specs.Layout.{Held, framed, opened}
+use Rattle.frame.specs.Layout.{Held, framed, opened, answer-head, answer-most}
 use Rattle.codec.specs.declared.answer.Answer.{Answer}
-
--- the head of an answer frame, and the most bytes of data that it may have
-abbrev pub answer-head : ℕ
-answer-head = 0xB3
-
-abbrev pub answer-most : ℕ
-answer-most = 512
 
 -- what an answer frame says: its code, and its data with the place where they begin
 pub record Said : Type 0 where

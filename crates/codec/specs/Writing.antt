@@ -16,8 +16,8 @@ use Rattle.frame.specs.declared.codes.Refusal.{Refusal}
 use Rattle.frame.specs.declared.codes.Refusal.the-variants.{Local, Code as Answer}
 use Rattle.frame.specs.Fields.{Bytes}
 use Rattle.frame.specs.Kinds.{kind-byte}
-use Rattle.frame.specs.Layout.{framed, headed, opened}
-use Rattle.frame.specs.Places.{command-head, command-most, stop, stop-request, stop-frame}
+use Rattle.frame.specs.Layout.{framed, headed, opened, command-head, command-most}
+use Rattle.frame.specs.Places.{stop, stop-request, stop-frame}
 use Rattle.frame.specs.Requests.{Request as Asked, get, read, write, memory-crc, erase, protect, unprotect, Fitting, kind-for, request-data, wrong-length}
 use Rattle.codec.specs.declared.request.Request.{Request}
 use Rattle.codec.specs.declared.request.Request.the-variants.{Get, Read, Write, MemoryCrc, Erase, Protect, Unprotect}

@@ -15,6 +15,19 @@ use Rattle.frame.specs.declared.layout.Flaw.the-variants.{WrongHead, WrongTota
 use Rattle.frame.specs.declared.layout.Content.{Content}
 use Rattle.frame.specs.Fields.{two, bytes-of-two}
 
+-- the heads of command frames and of answer frames, and the most bytes of data that each may have
+abbrev pub command-head : ℕ
+command-head = 0x85
+
+abbrev pub command-most : ℕ
+command-most = 516
+
+abbrev pub answer-head : ℕ
+answer-head = 0xB3
+
+abbrev pub answer-most : ℕ
+answer-most = 512
+
 -- the checksum of the data as it stands in a frame
 abbrev pub check-bytes : List ℕ → List ℕ
 check-bytes bytes = cond (eqb (length bytes) 0) [] (bytes-of-two (crc bytes))

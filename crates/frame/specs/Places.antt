@@ -19,15 +19,8 @@ use Rattle.frame.specs.declared.command.Command.{Command}
 use Rattle.frame.specs.declared.command.Command.the-variants.{Get, Read, Write, MemoryCrc, Erase, Protect, Unprotect}
 use Rattle.frame.specs.Flaws.{stopped-by}
 use Rattle.frame.specs.Kinds.{kind-of, forbidden}
-use Rattle.frame.specs.Layout.{Held, opened}
+use Rattle.frame.specs.Layout.{Held, opened, command-head, command-most}
 use Rattle.frame.specs.Requests.{Request, get, read, write, memory-crc, erase, protect, unprotect, request-of, WriteLength, wrong-length, misaligned, wrong-parameter, out-of-range}
-
--- the head of a command frame, and the most bytes of data that it may have
-abbrev pub command-head : ℕ
-command-head = 0x85
-
-abbrev pub command-most : ℕ
-command-most = 516
 
 -- a place of the order: where it applies, its code is the answer, and else the next place decides
 abbrev pub stop : {X : Type 0} → Bool → Code → Result X Refusal → Result X Refusal

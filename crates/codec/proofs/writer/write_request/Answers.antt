@@ -9,5 +9,5 @@ returns c = record {
   writes-the-frame-and-no-more = c .write-checked .ensures .frame;
   written-frames-pass = written-frames-pass;
   passing-frames-are-written = passing-frames-are-written;
-    frames-fit-the-buffer = frames-fit-the-buffer;
+  frames-fit-the-buffer = frames-fit-the-buffer;
 }

@@ -1,0 +1,13 @@
+pub mod CutRows
+pub mod Cuts
+pub mod Effects
+pub mod Faults
+pub mod Laws
+pub mod Lists
+pub mod Meaning
+pub mod Pair
+pub mod Ranges
+pub mod Sounds
+pub mod Tables
+pub mod Word
+pub mod Words

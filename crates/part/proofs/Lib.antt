@@ -1,0 +1,5 @@
+mod Blind
+mod Stretches
+mod Histories
+mod Sounds
+mod Twins
