@@ -18,12 +18,10 @@ use Rattle.frame.specs.Kinds.{kinds, kind-byte, kind-among, kind-of}
 use Rattle.frame.specs.declared.kinds.Kind.{Kind}
 use Rattle.frame.specs.declared.kinds.Kind.the-variants.{Get, Read, Write, MemoryCrc, Erase, Protect, Unprotect}
 use Rattle.frame.specs.Fields.{two, four, bytes-of-two, bytes-of-four, Bytes}
+use Rattle.frame.proofs.Frames.{two-back}
 use Rattle.frame.specs.Requests.{Request, get, read, write, memory-crc, erase, protect, unprotect, Fitting, kind-for, request-data, request-of, wrong-length}
 
 -- ---- numbers
-
-two-is : (n : ℕ) → n < 2 ^ 16 → n / 256 % 256 * 256 + n % 256 ≡ n
-two-is n h = omega arith
 
 four-is : (n : ℕ) → n < 2 ^ 32 → n / 16777216 % 256 * 16777216 + n / 65536 % 256 * 65536 + n / 256 % 256 * 256 + n % 256 ≡ n
 four-is n h =
@@ -36,9 +34,9 @@ four-is n h =
 
 pub read-back : (q : Request) → Fitting q → request-of (kind-for q) (request-data q) ≡ q
 read-back (get information) f = refl
-read-back (read address n) f = ap₂ read (four-is address (f .0)) (two-is n (f .1))
+read-back (read address n) f = ap₂ read (four-is address (f .0)) (two-back n (f .1))
 read-back (write address bytes) f = ap (λ a. write a bytes) (four-is address (f .0))
-read-back (memory-crc address n value) f = λ j. memory-crc (four-is address (f .0) j) (four-is n (f .1) j) (two-is value (f .2) j)
+read-back (memory-crc address n value) f = λ j. memory-crc (four-is address (f .0) j) (four-is n (f .1) j) (two-back value (f .2) j)
 read-back (erase mode index count) f = ap₂ (erase mode) (four-is index (f .1)) (four-is count (f .2))
 read-back protect f = refl
 read-back unprotect f = refl
@@ -148,11 +146,11 @@ code-of-byte UnknownCommand = refl
 
 -- ---- bytes
 
-bytes-cons : (x : ℕ) (xs : List ℕ) → x < 256 → Bytes xs → Bytes (x ∷ xs)
+pub bytes-cons : (x : ℕ) (xs : List ℕ) → x < 256 → Bytes xs → Bytes (x ∷ xs)
 bytes-cons x xs h t zero = h
 bytes-cons x xs h t (suc i) = t i
 
-bytes-nil : Bytes []
+pub bytes-nil : Bytes []
 bytes-nil i = omega arith
 
 low : (n : ℕ) → n % 256 < 256

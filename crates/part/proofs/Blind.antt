@@ -9,7 +9,7 @@ use Rattle.std.specs.declared.option.Option.{Option}
 use Rattle.std.specs.declared.option.Option.the-variants.{Some, None}
 use Rattle.std.specs.declared.result.Result.{Result}
 use Rattle.std.specs.declared.result.Result.the-variants.{Ok, Err}
-use Rattle.frame.specs.declared.codes.Code.the-variants.{WrongLength, WrongParameter}
+use Rattle.frame.specs.declared.codes.Code.the-variants.{NotAllowed, WrongLength, WrongParameter, UnknownCommand}
 use Rattle.frame.specs.declared.codes.Refusal.{Refusal}
 use Rattle.frame.specs.declared.codes.Refusal.the-variants.{Local, Code as Answer}
 use Rattle.frame.specs.declared.kinds.Kind.{Kind}
@@ -17,7 +17,7 @@ use Rattle.frame.specs.declared.kinds.Kind.the-variants.{Get, Read, Write as Wr
 use Rattle.frame.specs.declared.kinds.Level.{Level}
 use Rattle.frame.specs.declared.kinds.Level.the-variants.{Open, Locked}
 use Rattle.frame.specs.declared.layout.Flaw.{Flaw}
-use Rattle.frame.specs.declared.layout.Flaw.the-variants.{WrongHead, WrongTotal, TooLong, Damaged}
+use Rattle.frame.specs.Flaws.{stopped-by}
 use Rattle.frame.specs.Kinds.{kind-of, forbidden}
 use Rattle.frame.specs.Layout.{Held, total, length-field, opened, command-head, command-most}
 use Rattle.frame.specs.Places.{stop-command, stop-frame, judged}
@@ -46,48 +46,57 @@ Fresh (doing task) = ⊥
 
 -- ---- a byte
 
--- two places, and a request that both let through
-abbrev pub two-places : Bool → Bool → Request → Result Request Refusal
-two-places a b q = cond a (Err (Answer WrongLength)) (cond b (Err (Answer WrongParameter)) (Ok q))
+-- a test of a judgement holds at level 1 where it holds of every refusal, of a Get and of an Unprotect
+module _ (Q : Result Request Refusal → Type 0) (refusal : (e : Refusal) → Q (Err e)) where
+  through : (a b : Bool) (q : Request) → Q (Ok q) → Q (cond a (Err (Answer WrongLength)) (cond b (Err (Answer WrongParameter)) (Ok q)))
+  through true b q t = refusal (Answer WrongLength)
+  through false true q t = refusal (Answer WrongParameter)
+  through false false q t = t
+
+  module _ (gets : (n : ℕ) → Q (Ok (get n))) (unprotects : Q (Ok unprotect)) (pages : ℕ) where
+    command-locked : (o : Option Kind) (d : List ℕ) → Q (stop-command (forbidden Locked) (out-of-range pages) o d)
+    command-locked None d = refusal (Answer UnknownCommand)
+    command-locked (Some Get) d =
+        through (wrong-length Get (length d)) (wrong-parameter (request-of Get d)) (get (getD d 0 0)) (gets (getD d 0 0))
+    command-locked (Some Read) d = refusal (Answer NotAllowed)
+    command-locked (Some WriteKind) d = refusal (Answer NotAllowed)
+    command-locked (Some MemoryCrc) d = refusal (Answer NotAllowed)
+    command-locked (Some Erase) d = refusal (Answer NotAllowed)
+    command-locked (Some Protect) d = refusal (Answer NotAllowed)
+    command-locked (Some Unprotect) d = through (wrong-length Unprotect (length d)) false unprotect unprotects
+
+    frame-locked : (r : Result Held Flaw) → Q (stop-frame (forbidden Locked) (out-of-range pages) r)
+    frame-locked (Ok h) = command-locked (kind-of (h .tag)) (h .bytes)
+    frame-locked (Err flaw) = refusal (stopped-by flaw)
+
+    judged-locked : (f : List ℕ) → Q (judged Locked pages f)
+    judged-locked f = frame-locked (opened command-head command-most f)
 
 module _ (i : Identity) (m : Meaning) where
-  abbrev same-answer : Result Request Refusal → Type 0
-  same-answer r = answered i Locked m r ≡ answered i Locked (without-words m) r
+  -- a judgement is answered without a look at the user words
+  abbrev Same-answer : Result Request Refusal → Type 0
+  Same-answer r = answered i Locked m r ≡ answered i Locked (without-words m) r
 
-  get-blind : (a b : Bool) (n : ℕ) → same-answer (two-places a b (get n))
+  same-refusal : (e : Refusal) → Same-answer (Err e)
+  same-refusal (Local l) = refl
+  same-refusal (Answer c) = refl
+
+  same-get : (n : ℕ) → Same-answer (Ok (get n))
   unfolding served
-  get-blind true b n = refl
-  get-blind false true n = refl
-  get-blind false false n = refl
+  same-get n = refl
 
-  unprotect-blind : (a b : Bool) → same-answer (two-places a b unprotect)
+  same-unprotect : Same-answer (Ok unprotect)
   unfolding served
-  unprotect-blind true b = refl
-  unprotect-blind false true = refl
-  unprotect-blind false false = refl
+  same-unprotect = refl
 
-  command-blind : (o : Option Kind) (d : List ℕ) → same-answer (stop-command (forbidden Locked) (out-of-range (m .pages)) o d)
-  command-blind None d = refl
-  command-blind (Some Get) d = get-blind (wrong-length Get (length d)) (wrong-parameter (request-of Get d)) (getD d 0 0)
-  command-blind (Some Read) d = refl
-  command-blind (Some WriteKind) d = refl
-  command-blind (Some MemoryCrc) d = refl
-  command-blind (Some Erase) d = refl
-  command-blind (Some Protect) d = refl
-  command-blind (Some Unprotect) d = unprotect-blind (wrong-length Unprotect (length d)) false
-
-  frame-blind : (r : Result Held Flaw) → same-answer (stop-frame (forbidden Locked) (out-of-range (m .pages)) r)
-  frame-blind (Ok h) = command-blind (kind-of (h .tag)) (h .bytes)
-  frame-blind (Err WrongHead) = refl
-  frame-blind (Err WrongTotal) = refl
-  frame-blind (Err TooLong) = refl
-  frame-blind (Err Damaged) = refl
+  answered-blind : (f : List ℕ) → Same-answer (judged Locked (m .pages) f)
+  answered-blind f = judged-locked Same-answer same-refusal same-get same-unprotect (m .pages) f
 
   framing-blind : (f : List ℕ) → framing i Locked m f ≡ framing i Locked (without-words m) f
   unfolding framing
   framing-blind f =
       ap (λ h. cond (ltb (length f) 4) (waiting f) (cond (ltb command-most (length-field f)) (answering (code-answer WrongLength)) (cond (eqb (length f) (total (length-field f))) h (waiting f))))
-      (frame-blind (opened command-head command-most f))
+      (answered-blind f)
 
   connected-blind : (f : List ℕ) (b : ℕ) → connected-byte i Locked m f b ≡ connected-byte i Locked (without-words m) f b
   connected-blind [] b = refl
@@ -102,63 +111,52 @@ hears-blind p b e =
     ∙ heard-blind (p .identity) (p .flash) (p .wire) b
     ∙ sym (ap (λ l. heard (p .identity) l (without-words (p .flash)) (p .wire) b) e)
 
--- ---- what a locked part takes up
+-- ---- what a byte brings a part to take up
+
+-- a test of the command in hand holds of what a byte is taken up as, where it holds of none and of every judgement's
+module _ (Q : Hand → Type 0) (nothing : Q none) (i : Identity) (level : Level) (m : Meaning)
+    (judgement : (f : List ℕ) → Q (answered i level m (judged level (m .pages) f) .takes)) where
+  either : (c : Bool) (x y : Heard) → Q (x .takes) → Q (y .takes) → Q (cond c x y .takes)
+  either true x y s t = s
+  either false x y s t = t
+
+  framing-takes : (f : List ℕ) → Q (framing i level m f .takes)
+  unfolding framing
+  framing-takes f =
+      either (ltb (length f) 4) _ _ nothing
+      (either (ltb command-most (length-field f)) _ _ nothing
+      (either (eqb (length f) (total (length-field f))) _ _ (judgement f) nothing))
+
+  connected-takes : (f : List ℕ) (b : ℕ) → Q (connected-byte i level m f b .takes)
+  connected-takes [] b = either (eqb b 0x5A) _ _ nothing (either (eqb b 0x85) _ _ nothing nothing)
+  connected-takes (x ∷ f) b = framing-takes ((x ∷ f) ++ (b ∷ []))
+
+  pub heard-takes : (w : Wire) (b : ℕ) → Q (heard i level m w b .takes)
+  heard-takes w b = either (w .connected) _ _ (connected-takes (w .frame) b) (either (eqb b 0x5A) _ _ nothing nothing)
 
 module _ (i : Identity) (m : Meaning) where
-  abbrev takes-fresh : Result Request Refusal → Type 0
-  takes-fresh r = Fresh (answered i Locked m r .takes)
+  abbrev Takes-fresh : Result Request Refusal → Type 0
+  Takes-fresh r = Fresh (answered i Locked m r .takes)
 
-  get-fresh : (a b : Bool) (n : ℕ) → takes-fresh (two-places a b (get n))
+  fresh-refusal : (e : Refusal) → Takes-fresh (Err e)
+  fresh-refusal (Local l) = tt
+  fresh-refusal (Answer c) = tt
+
+  fresh-get : (n : ℕ) → Takes-fresh (Ok (get n))
   unfolding served
-  get-fresh true b n = tt
-  get-fresh false true n = tt
-  get-fresh false false n = tt
+  fresh-get n = tt
 
-  unprotect-fresh : (a b : Bool) → takes-fresh (two-places a b unprotect)
+  fresh-unprotect : Takes-fresh (Ok unprotect)
   unfolding served
-  unprotect-fresh true b = tt
-  unprotect-fresh false true = tt
-  unprotect-fresh false false = refl
+  fresh-unprotect = refl
 
-  command-fresh : (o : Option Kind) (d : List ℕ) → takes-fresh (stop-command (forbidden Locked) (out-of-range (m .pages)) o d)
-  command-fresh None d = tt
-  command-fresh (Some Get) d = get-fresh (wrong-length Get (length d)) (wrong-parameter (request-of Get d)) (getD d 0 0)
-  command-fresh (Some Read) d = tt
-  command-fresh (Some WriteKind) d = tt
-  command-fresh (Some MemoryCrc) d = tt
-  command-fresh (Some Erase) d = tt
-  command-fresh (Some Protect) d = tt
-  command-fresh (Some Unprotect) d = unprotect-fresh (wrong-length Unprotect (length d)) false
-
-  frame-fresh : (r : Result Held Flaw) → takes-fresh (stop-frame (forbidden Locked) (out-of-range (m .pages)) r)
-  frame-fresh (Ok h) = command-fresh (kind-of (h .tag)) (h .bytes)
-  frame-fresh (Err WrongHead) = tt
-  frame-fresh (Err WrongTotal) = tt
-  frame-fresh (Err TooLong) = tt
-  frame-fresh (Err Damaged) = tt
-
-  -- of two ways that are fresh, either is
-  either-fresh : (c : Bool) (x y : Heard) → Fresh (x .takes) → Fresh (y .takes) → Fresh (cond c x y .takes)
-  either-fresh true x y s t = s
-  either-fresh false x y s t = t
-
-  framing-fresh : (f : List ℕ) → Fresh (framing i Locked m f .takes)
-  unfolding framing
-  framing-fresh f =
-      either-fresh (ltb (length f) 4) _ _ tt
-      (either-fresh (ltb command-most (length-field f)) _ _ tt
-      (either-fresh (eqb (length f) (total (length-field f))) _ _ (frame-fresh (opened command-head command-most f)) tt))
-
-  connected-fresh : (f : List ℕ) (b : ℕ) → Fresh (connected-byte i Locked m f b .takes)
-  connected-fresh [] b = either-fresh (eqb b 0x5A) _ _ tt (either-fresh (eqb b 0x85) _ _ tt tt)
-  connected-fresh (x ∷ f) b = framing-fresh ((x ∷ f) ++ (b ∷ []))
-
-  heard-fresh : (w : Wire) (b : ℕ) → Fresh (heard i Locked m w b .takes)
-  heard-fresh w b = either-fresh (w .connected) _ _ (connected-fresh (w .frame) b) (either-fresh (eqb b 0x5A) _ _ tt tt)
+  judged-fresh : (f : List ℕ) → Takes-fresh (judged Locked (m .pages) f)
+  judged-fresh f = judged-locked Takes-fresh fresh-refusal fresh-get fresh-unprotect (m .pages) f
 
 pub hears-fresh : (p : Part) (b : ℕ) → p .level ≡ Locked → Fresh (hears p b .takes)
 hears-fresh p b e =
-    subst (λ l. Fresh (heard (p .identity) l (p .flash) (p .wire) b .takes)) (sym e) (heard-fresh (p .identity) (p .flash) (p .wire) b)
+    subst (λ l. Fresh (heard (p .identity) l (p .flash) (p .wire) b .takes)) (sym e)
+    (heard-takes Fresh tt (p .identity) Locked (p .flash) (judged-fresh (p .identity) (p .flash)) (p .wire) b)
 
 -- ---- a portion
 

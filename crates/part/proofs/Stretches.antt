@@ -30,6 +30,7 @@ use Rattle.flash.specs.Meaning.{Meaning}
 use Rattle.part.specs.declared.identity.Identity.{Identity}
 use Rattle.part.specs.Events.{Event, byte, work, ask-fault, reset, cut, cut-work, bytes, step, run, hears, busy, after-byte, after-portion, next-portion, work-said, work-says, least-buffer}
 use Rattle.part.specs.Laws.{Checks-answer-for-the-stretch}
+use Rattle.part.proofs.Blind.{heard-takes}
 use Rattle.part.specs.Parts.{Part, Wire, Task, writing, setting, checking, erasing, protecting, Hand, none, unprotecting, doing, started, restarted}
 use Rattle.part.specs.Receiving.{Heard, heard, connected-byte, framing, answered, served, write-task, erase-task, code-answer}
 use Rattle.part.specs.Working.{Portion, Outcome, idle, going, done, done-ticket, differs, portion, written-as, task-portion, check-words, check-register, check-portion, unprotect-portion, erase-portion}
@@ -83,10 +84,6 @@ module _ (m : Meaning) where
   hand-either true x y s t = s
   hand-either false x y s t = t
 
-  heard-either : (c : Bool) (x y : Heard) → Checked (x .takes) m → Checked (y .takes) m → Checked (cond c x y .takes) m
-  heard-either true x y s t = s
-  heard-either false x y s t = t
-
   served-checked : (i : Identity) (l : Level) (q : Request) → Checked (served i l m q .takes) m
   unfolding served feeds
   served-checked i l (get n) = tt
@@ -102,19 +99,8 @@ module _ (m : Meaning) where
   answered-checked i l (Err (Answer c)) = tt
   answered-checked i l (Err (Local c)) = tt
 
-  framing-checked : (i : Identity) (l : Level) (f : List ℕ) → Checked (framing i l m f .takes) m
-  unfolding framing
-  framing-checked i l f =
-      heard-either (ltb (length f) 4) _ _ tt
-      (heard-either (ltb command-most (length-field f)) _ _ tt
-      (heard-either (eqb (length f) (total (length-field f))) _ _ (answered-checked i l (judged l (m .pages) f)) tt))
-
-  connected-checked : (i : Identity) (l : Level) (f : List ℕ) (b : ℕ) → Checked (connected-byte i l m f b .takes) m
-  connected-checked i l [] b = heard-either (eqb b 0x5A) _ _ tt (heard-either (eqb b 0x85) _ _ tt tt)
-  connected-checked i l (x ∷ f) b = framing-checked i l ((x ∷ f) ++ (b ∷ []))
-
   heard-checked : (i : Identity) (l : Level) (w : Wire) (b : ℕ) → Checked (heard i l m w b .takes) m
-  heard-checked i l w b = heard-either (w .connected) _ _ (connected-checked i l (w .frame) b) (heard-either (eqb b 0x5A) _ _ tt tt)
+  heard-checked i l w b = heard-takes (λ h. Checked h m) tt i l m (λ f. answered-checked i l (judged l (m .pages) f)) w b
 
 byte-checked : (p : Part) (x : Heard) (c d : Bool) → Checked (p .hand) (p .flash) → Checked (x .takes) (p .flash)
     → Checked (cond c p (cond d p (after-byte p x)) .hand) (cond c p (cond d p (after-byte p x)) .flash)

@@ -23,7 +23,9 @@ use Rattle.frame.specs.Requests.{get, read, write, memory-crc, erase, protect, 
 use Rattle.script.specs.declared.form.Verb.{Verb}
 use Rattle.script.specs.declared.form.Verb.the-variants.{Get, Read, Write, Crc, Erase, Protect, Unprotect, Answer, Verdict}
 use Rattle.script.specs.Digits.{hex-digit, hex-byte, hex-short, hex-long, byte-in, short-in, long-in, number-up-to}
-use Rattle.script.specs.Forms.{Asked, request, answer, verdict, verb-text, verb-for, words-for, shown, Bytes, Fits}
+use Rattle.frame.specs.Fields.{Bytes}
+use Rattle.frame.proofs.Readback.{bytes-nil, bytes-cons}
+use Rattle.script.specs.Forms.{Asked, request, answer, verdict, verb-text, verb-for, words-for, shown, Fits}
 use Rattle.script.specs.Grammar.{verbs, verb-among, verb-in, given, taken, ended, bytes-taken, most, asked-by, asked-in, asked-or-none, asked-on}
 use Rattle.script.specs.Lines.{first-by, behind, put-first, all-by, wordless, line-text, words-in}
 use Rattle.script.specs.Texts.{Reads}
@@ -106,7 +108,7 @@ among-only (u ∷ us) w v e =
 -- ---- the words behind it, forwards
 bytes-back : (bs : List ℕ) → Bytes bs → all-by byte-in (map hex-byte bs) ≡ Some bs
 bytes-back [] h = refl
-bytes-back (b ∷ bs) h = ap₂ put-first (byte-back b (h .0)) (bytes-back bs (h .1))
+bytes-back (b ∷ bs) h = ap₂ put-first (byte-back b (h 0)) (bytes-back bs (λ i. h (suc i)))
 
 given-back : {X : Type 0} {o : Option X} {x : X} (next : X → List (List ℕ) → Option Asked) (ws : List (List ℕ)) → o ≡ Some x → given o next ws ≡ next x ws
 given-back next ws e = ap (λ o. given o next ws) e
@@ -154,12 +156,12 @@ put-first-only (Some x) None bs e = let z : _≡_ {A = ℕ} 0 1 = cc in absurd (
 put-first-only (Some x) (Some xs) bs e = (x, xs, refl, refl, cc)
 
 bytes-only : (ws : List (List ℕ)) (bs : List ℕ) → all-by byte-in ws ≡ Some bs → (map hex-byte bs ≡ ws) × Bytes bs
-bytes-only [] bs e = let same : [] ≡ bs = cc in (ap (map hex-byte) (sym same), subst Bytes same tt)
+bytes-only [] bs e = let same : [] ≡ bs = cc in (ap (map hex-byte) (sym same), subst Bytes same bytes-nil)
 bytes-only (w ∷ ws) bs e =
     let p = put-first-only (byte-in w) (all-by byte-in ws) bs e in
     let first = byte-only w (p .0) (p .2) in
     let rest = bytes-only ws (p .1) (p .3) in
-    (ap (map hex-byte) (sym (p .4)) ∙ ap₂ (λ x xs. x ∷ xs) (first .0) (rest .0), subst Bytes (p .4) (first .1, rest .1))
+    (ap (map hex-byte) (sym (p .4)) ∙ ap₂ (λ x xs. x ∷ xs) (first .0) (rest .0), subst Bytes (p .4) (bytes-cons (p .0) (p .1) (first .1) (rest .1)))
 
 mapped-only : (f : List ℕ → Asked) (o : Option (List ℕ)) (a : Asked) → mapped f o ≡ Some a → (bs : List ℕ) × (o ≡ Some bs) × (f bs ≡ a)
 mapped-only f None a e = let z : _≡_ {A = ℕ} 0 1 = cc in absurd (omega arith)

@@ -4,8 +4,8 @@ use mathlib.Core.List.{List, [], _∷_, map}
 use lib.Chars.{codes}
 use Rattle.std.specs.Of.Vec.{vec-items}
 use Rattle.std.specs.Written.{decimal}
-use Rattle.std.specs.shelf.Lists.{All}
-use Rattle.frame.specs.Requests.{Request, get, read, write, memory-crc, erase, protect, unprotect}
+use Rattle.frame.specs.Fields.{Bytes}
+use Rattle.frame.specs.Requests.{Request, Fitting, get, read, write, memory-crc, erase, protect, unprotect}
 use Rattle.script.specs.declared.form.Form.{Form}
 use Rattle.script.specs.declared.form.Form.the-variants as forms
 use Rattle.script.specs.declared.form.Order.{Order}
@@ -77,18 +77,8 @@ words-for (verdict level pages bytes) = decimal level ∷ decimal pages ∷ map 
 abbrev pub shown : Asked → List ℕ
 shown a = line-text (verb-text (verb-for a)) (words-for a)
 
--- every number is a byte
-abbrev pub Bytes : List ℕ → Type 0
-Bytes bs = All (λ b. b < 256) bs
-
 -- the numbers are as large as the forms of a line can have them
 abbrev pub Fits : Asked → Type 0
-Fits (request (get information)) = information < 2 ^ 8
-Fits (request (read address count)) = (address < 2 ^ 32) × (count < 2 ^ 16)
-Fits (request (write address bytes)) = (address < 2 ^ 32) × Bytes bytes
-Fits (request (memory-crc address count value)) = (address < 2 ^ 32) × (count < 2 ^ 32) × (value < 2 ^ 16)
-Fits (request (erase mode index count)) = (mode < 2 ^ 8) × (index < 2 ^ 32) × (count < 2 ^ 32)
-Fits (request protect) = Unit {0}
-Fits (request unprotect) = Unit {0}
+Fits (request q) = Fitting q
 Fits (answer bytes) = Bytes bytes
 Fits (verdict level pages bytes) = (level < 2 ^ 32) × (pages < 2 ^ 32) × Bytes bytes
