@@ -30,57 +30,45 @@ pub struct FlashFault {
 
 // The six refusals. No other is made anywhere.
 impl FlashFault {
+    fn new(cause: Cause, asked: Asked) -> FlashFault
+        ensures { λ r. ⌜ (r .cause ≡ cause) × (r .asked ≡ asked) ⌝ }
+    {
+        FlashFault { cause, asked }
+    }
+
     pub fn no_page(page: u32) -> FlashFault
         ensures { λ r. ⌜ r ≡ no-page page ⌝ }
     {
-        FlashFault {
-            cause: Cause::Range,
-            asked: Asked::Page(page),
-        }
+        FlashFault::new(Cause::Range, Asked::Page(page))
     }
 
     pub fn no_word(i: u32) -> FlashFault
         ensures { λ r. ⌜ r ≡ no-word i ⌝ }
     {
-        FlashFault {
-            cause: Cause::Range,
-            asked: Asked::Word(i),
-        }
+        FlashFault::new(Cause::Range, Asked::Word(i))
     }
 
     pub fn no_option_word(i: u32) -> FlashFault
         ensures { λ r. ⌜ r ≡ no-option-word i ⌝ }
     {
-        FlashFault {
-            cause: Cause::Range,
-            asked: Asked::OptionWord(i),
-        }
+        FlashFault::new(Cause::Range, Asked::OptionWord(i))
     }
 
     pub fn not_erased(i: u32) -> FlashFault
         ensures { λ r. ⌜ r ≡ word-not-erased i ⌝ }
     {
-        FlashFault {
-            cause: Cause::NotErased,
-            asked: Asked::Word(i),
-        }
+        FlashFault::new(Cause::NotErased, Asked::Word(i))
     }
 
     pub fn worn_page(page: u32) -> FlashFault
         ensures { λ r. ⌜ r ≡ page-worn page ⌝ }
     {
-        FlashFault {
-            cause: Cause::Worn,
-            asked: Asked::Page(page),
-        }
+        FlashFault::new(Cause::Worn, Asked::Page(page))
     }
 
     pub fn worn_options() -> FlashFault
         ensures { λ r. ⌜ r ≡ options-worn ⌝ }
     {
-        FlashFault {
-            cause: Cause::Worn,
-            asked: Asked::OptionWrite,
-        }
+        FlashFault::new(Cause::Worn, Asked::OptionWrite)
     }
 }

@@ -151,6 +151,9 @@ computed-runs =
     -- a Read tells a word at level 0, and is refused at level 1
     ∷ says-last (last-said (open-part 0x44332211) (greeting ++ read-start) read-end)
     ∷ says-last (last-said (locked-part 0x44332211) (greeting ++ read-start) read-end)
+    -- the low byte of option word 0 alone tells the level
+    ∷ stands-at (started zero-identity (flash-of 0 [] 0x123456AA) .level)
+    ∷ stands-at (started zero-identity (flash-of 0 [] 0xAA000000) .level)
     -- a part with no page at all: the first work call of an Unprotect writes the option words
     ∷ says-last (last-said (started zero-identity (flash-of 0 [] lock-word)) (greeting ++ unprotect-frame) (work 518))
     ∷ []
@@ -169,6 +172,8 @@ expected-runs =
     ∷ reads 0x0BADF00D
     ∷ says-last (bytes (0xB3 ∷ 0x90 ∷ 0x00 ∷ 0x04 ∷ 0x11 ∷ 0x22 ∷ 0x33 ∷ 0x44 ∷ 0x0D ∷ 0xAD ∷ []))
     ∷ says-last (bytes (0xB3 ∷ 0x63 ∷ 0x00 ∷ 0x00 ∷ []))
+    ∷ stands-at Open
+    ∷ stands-at Locked
     ∷ says-last (bytes-and-ticket (0xB3 ∷ 0x90 ∷ 0x00 ∷ 0x00 ∷ []))
     ∷ []
 
