@@ -1,4 +1,6 @@
 // The memory of a part as its addresses name it: the areas, the words in them, and the bytes of a word.
+#![tactic(auto)]
+
 mod bytes;
 mod map;
 

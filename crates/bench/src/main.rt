@@ -1,4 +1,6 @@
 // A part on a bench: reads a form a line from the standard input, does it to the part, and prints what the part answers.
+#![tactic(auto)]
+
 use bench_script::{Form, Said, out_line, parse, said_line};
 use flash::Flash;
 use flash_kinds::{PageRecord, WordFlash};

@@ -1,4 +1,6 @@
 // The lines of a bench on which a part stands: what each line asks for, as `(in 5A)`, and what it is answered with, as `(taken)`.
+#![tactic(auto)]
+
 mod form;
 mod parser;
 mod said;

@@ -1,4 +1,6 @@
 // CRC-16/IBM-SDLC, the checksum of HDLC and X.25 frames: by shifts, two bytes at a time, with no table.
+#![tactic(auto)]
+
 ghost use Rattle.std.specs.Prelude.{◌≡◌, ℕ, List, bit_xor};
 ghost use Rattle.checksum.specs.Crc.{steps, feeds, crc, StretchesJoin};
 

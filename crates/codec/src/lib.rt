@@ -1,4 +1,6 @@
 // The host's side of the CIU32 SPI boot loader protocol: it writes command frames, reads answer frames, and judges frames.
+#![tactic(auto)]
+
 mod answer;
 mod exports;
 mod reader;

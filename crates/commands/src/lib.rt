@@ -1,5 +1,7 @@
 // The commands of the CIU32 SPI boot loader protocol: their bytes, the codes of answers, the protection level, and the rules for
 // lengths and parameters, on numbers.
+#![tactic(auto)]
+
 mod codes;
 mod kinds;
 mod rules;

@@ -1,4 +1,6 @@
 // Flash memory: one interface with exact effects. FLASH.md is its guide.
+#![tactic(auto)]
+
 mod fault;
 mod interface;
 mod ranges;

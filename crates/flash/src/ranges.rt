@@ -13,10 +13,10 @@ pub struct Erased {
 
 // Erases `count` pages from `first` on, ascending, up to the first that is refused.
 pub fn erase_range<F: Flash>(flash: &mut F, first: u32, count: u32) -> Erased
-    ensures answer { result ≡ erase_range_answer (meaning flash.old) first count }
-    ensures leaves { meaning flash.new ≡ erase_range_leaves (meaning flash.old) first count }
-    ensures blank { RangeIsBlank result first count (meaning flash.new) }
-    ensures loans { lent flash.new ≡ lent flash.old }
+    ensures answer { result ≡ erase_range_answer (F.meaning flash.old) first count }
+    ensures leaves { F.meaning flash.new ≡ erase_range_leaves (F.meaning flash.old) first count }
+    ensures blank { RangeIsBlank result first count (F.meaning flash.new) }
+    ensures loans { F.lent flash.new ≡ F.lent flash.old }
 {
     let mut page = first;
     for done in 0..count {

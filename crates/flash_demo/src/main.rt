@@ -1,4 +1,6 @@
 // One run over any flash, printed for a word flash and for a pair flash: the two texts are the same.
+#![tactic(auto)]
+
 use flash::{Asked, Cause, Flash, FlashFault, erase_range};
 use flash_kinds::{PageRecord, PairFlash, WordFlash, laws_hold};
 use std::io;

@@ -39,5 +39,5 @@ pair_lent_from name_l name_h name_lr name_hr low high low_records_of high_record
 
 abbrev pub pair_lent : PairFlash → Lent
 pair_lent f =
-    pair_lent_from f.low.ghost_name f.high.ghost_name f.low_records.name f.high_records.name
+    pair_lent_from f.low.ghost_name f.high.ghost_name f.low_records.ghost_name f.high_records.ghost_name
     f.low.now f.high.now f.low_records.now f.high_records.now

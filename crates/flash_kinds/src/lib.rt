@@ -1,4 +1,6 @@
 // Two kinds of flash in lent tables. FLASH.md is its guide.
+#![tactic(auto)]
+
 mod laws;
 mod pair_flash;
 mod record;

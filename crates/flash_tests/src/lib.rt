@@ -1,3 +1,5 @@
+#![tactic(auto)]
+
 ghost use Rattle.std.specs.Prelude.{◌≡◌, ◌*◌, length, drop};
 ghost use Rattle.flash.specs.Effects.{program_leaves};
 ghost use Rattle.flash.specs.Ranges.{erase_range_leaves};

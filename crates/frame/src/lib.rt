@@ -1,4 +1,6 @@
 // The frames of the CIU32 SPI boot loader protocol: layout, and where a frame is stopped.
+#![tactic(auto)]
+
 mod command;
 mod flaws;
 mod judging;

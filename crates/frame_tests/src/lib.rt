@@ -1,5 +1,6 @@
 // Rows of docs/PROTOCOL.md that no program prints: the address map, the list of commands, and a frame told apart.
 // Each expected value was worked out by hand from the rules there.
+#![tactic(auto)]
 
 #[cfg(test)]
 mod tests {

@@ -1,4 +1,6 @@
 // The frame tool: reads a form a line from the standard input and answers each with a line.
+#![tactic(auto)]
+
 use std::io;
 use std::io::{BufRead, BufReader, Write};
 

@@ -1,4 +1,6 @@
 // The loader over any flash.
+#![tactic(auto)]
+
 mod answers;
 mod faults;
 mod loader;

@@ -32,8 +32,8 @@ fn write_next<F: Flash>(
 ) -> Result<Progress, MemoryFault>
     requires sums_fit { first + 256 < 2 ^ 32 }
     requires whole { (1 ≤ words) × (words ≤ 128) }
-    ensures ends { ended store.now result ≡ left_by (write_portion (meaning flash.old) first (stored_bytes store.now words) done) }
-    ensures leaves { meaning flash.new ≡ written (write_portion (meaning flash.old) first (stored_bytes store.now words) done).writes (meaning flash.old) }
+    ensures ends { ended store.now result ≡ left_by (write_portion (F.meaning flash.old) first (stored_bytes store.now words) done) }
+    ensures leaves { F.meaning flash.new ≡ written (write_portion (F.meaning flash.old) first (stored_bytes store.now words) done).writes (F.meaning flash.old) }
     ensures bounded { goes_bounded result ≡ true }
 {
     let data = WriteData::stored(store, words);
@@ -58,8 +58,8 @@ fn erase_next<F: Flash>(
     done: u32,
 ) -> Result<Progress, MemoryFault>
     requires { first + count < 2 ^ 32 }
-    ensures ends { (s : List ℕ) → ended s result ≡ left_by (erase_portion (meaning flash.old) first count done) }
-    ensures leaves { meaning flash.new ≡ written (erase_portion (meaning flash.old) first count done).writes (meaning flash.old) }
+    ensures ends { (s : List ℕ) → ended s result ≡ left_by (erase_portion (F.meaning flash.old) first count done) }
+    ensures leaves { F.meaning flash.new ≡ written (erase_portion (F.meaning flash.old) first count done).writes (F.meaning flash.old) }
     ensures bounded { goes_bounded result ≡ true }
 {
     if done >= count {
@@ -79,8 +79,8 @@ fn erase_next<F: Flash>(
 
 // Some option words replaced, from `first` on: one portion, and the ticket comes with it.
 fn replace_next<F: Flash>(flash: &mut F, first: u32, words: &[u32]) -> Result<Progress, MemoryFault>
-    ensures ends { (s : List ℕ) → ended s result ≡ left_by (options_portion (meaning flash.old) (options_replaced first words.now (meaning flash.old).options)) }
-    ensures leaves { meaning flash.new ≡ written (options_portion (meaning flash.old) (options_replaced first words.now (meaning flash.old).options)).writes (meaning flash.old) }
+    ensures ends { (s : List ℕ) → ended s result ≡ left_by (options_portion (F.meaning flash.old) (options_replaced first words.now (F.meaning flash.old).options)) }
+    ensures leaves { F.meaning flash.new ≡ written (options_portion (F.meaning flash.old) (options_replaced first words.now (F.meaning flash.old).options)).writes (F.meaning flash.old) }
     ensures bounded { goes_bounded result ≡ true }
 {
     memory::replace_options(flash, first, words)?;
@@ -89,8 +89,8 @@ fn replace_next<F: Flash>(flash: &mut F, first: u32, words: &[u32]) -> Result<Pr
 
 // An Unprotect's next page; behind the last page, the option write that opens the part.
 fn unprotect_next<F: Flash>(flash: &mut F, done: u32) -> Result<Progress, MemoryFault>
-    ensures ends { (s : List ℕ) → ended s result ≡ left_by (unprotect_portion (meaning flash.old) done) }
-    ensures leaves { meaning flash.new ≡ written (unprotect_portion (meaning flash.old) done).writes (meaning flash.old) }
+    ensures ends { (s : List ℕ) → ended s result ≡ left_by (unprotect_portion (F.meaning flash.old) done) }
+    ensures leaves { F.meaning flash.new ≡ written (unprotect_portion (F.meaning flash.old) done).writes (F.meaning flash.old) }
     ensures bounded { goes_bounded result ≡ true }
 {
     if done >= flash.pages() {
@@ -111,7 +111,7 @@ fn check_next<F: Flash>(
 ) -> Progress
     requires some { done ≤ count }
     requires within { first + count < 2 ^ 32 }
-    ensures ends { (s : List ℕ) → Ok (hand_after s result, outcome_of result) ≡ left_by (check_portion (meaning flash.now) first count value done register) }
+    ensures ends { (s : List ℕ) → Ok (hand_after s result, outcome_of result) ≡ left_by (check_portion (F.meaning flash.now) first count value done register) }
     ensures bounded { stays_bounded result ≡ true }
 {
     let left = count - done;
@@ -139,8 +139,8 @@ fn set_next<F: Flash>(
     first: u32,
     words: u8,
 ) -> Result<Progress, MemoryFault>
-    ensures ends { (s : List ℕ) → ended s result ≡ left_by (options_portion (meaning flash.old) (options_replaced first (words_from (stored_bytes store.now words)) (meaning flash.old).options)) }
-    ensures leaves { meaning flash.new ≡ written (options_portion (meaning flash.old) (options_replaced first (words_from (stored_bytes store.now words)) (meaning flash.old).options)).writes (meaning flash.old) }
+    ensures ends { (s : List ℕ) → ended s result ≡ left_by (options_portion (F.meaning flash.old) (options_replaced first (words_from (stored_bytes store.now words)) (F.meaning flash.old).options)) }
+    ensures leaves { F.meaning flash.new ≡ written (options_portion (F.meaning flash.old) (options_replaced first (words_from (stored_bytes store.now words)) (F.meaning flash.old).options)).writes (F.meaning flash.old) }
     ensures bounded { goes_bounded result ≡ true }
 {
     let data = WriteData::stored(store, words);
@@ -172,8 +172,8 @@ pub(crate) fn next_portion<F: Flash>(
 ) -> Result<Progress, CommandFault>
     requires sums_fit { bounded task ≡ true }
     requires no_ticket { ticket_for task ≡ false }
-    ensures ends { ended store.now result ≡ coded (hand_byte (hand_for task store.now)) (left_by (portion (hand_for task store.now) (meaning flash.old))) }
-    ensures leaves { meaning flash.new ≡ written (portion (hand_for task store.now) (meaning flash.old)).writes (meaning flash.old) }
+    ensures ends { ended store.now result ≡ coded (hand_byte (hand_for task store.now)) (left_by (portion (hand_for task store.now) (F.meaning flash.old))) }
+    ensures leaves { F.meaning flash.new ≡ written (portion (hand_for task store.now) (F.meaning flash.old)).writes (F.meaning flash.old) }
     ensures bounded { goes_bounded result ≡ true }
 {
     match task {

@@ -97,8 +97,8 @@ pub(crate) fn put_words<F: Flash>(
     count: u32,
 ) -> usize
     requires { (518 ≤ length buffer.old) × (count ≤ 128) }
-    ensures count { result ≡ length (data_answer (bytes_of_words (words_at (meaning flash.now) area first count))) }
-    ensures head { buffer.new ≡ headed (data_answer (bytes_of_words (words_at (meaning flash.now) area first count))) buffer.old }
+    ensures count { result ≡ length (data_answer (bytes_of_words (words_at (F.meaning flash.now) area first count))) }
+    ensures head { buffer.new ≡ headed (data_answer (bytes_of_words (words_at (F.meaning flash.now) area first count))) buffer.old }
 {
     let mut bytes = [0u8; 512];
     let size = memory::copy_words(flash, area, first, count, &mut bytes);

@@ -1,4 +1,6 @@
 // The memory behind a loader, over any flash: one portion of work at a time. It knows no protocol.
+#![tactic(auto)]
+
 mod fault;
 mod portions;
 mod reading;

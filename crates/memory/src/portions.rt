@@ -10,9 +10,9 @@ use flash::Flash;
 
 // Programs one user word.
 pub fn program<F: Flash>(flash: &mut F, i: u32, value: u32) -> Result<(), MemoryFault>
-    ensures answers_as_the_flash { result ≡ addressed (program_answer (meaning flash.old) i) }
-    ensures leaves_one_word_programmed { meaning flash.new ≡ program_leaves (meaning flash.old) i value }
-    ensures keeps_the_loans { lent flash.new ≡ lent flash.old }
+    ensures answers_as_the_flash { result ≡ addressed (program_answer (F.meaning flash.old) i) }
+    ensures leaves_one_word_programmed { F.meaning flash.new ≡ program_leaves (F.meaning flash.old) i value }
+    ensures keeps_the_loans { F.lent flash.new ≡ F.lent flash.old }
 {
     flash.program(i, value)?;
     Ok(())
@@ -20,9 +20,9 @@ pub fn program<F: Flash>(flash: &mut F, i: u32, value: u32) -> Result<(), Memory
 
 // Erases one page.
 pub fn erase<F: Flash>(flash: &mut F, page: u32) -> Result<(), MemoryFault>
-    ensures answers_as_the_flash { result ≡ addressed (erase_answer (meaning flash.old) page) }
-    ensures leaves_one_page_erased { meaning flash.new ≡ erase_leaves (meaning flash.old) page }
-    ensures keeps_the_loans { lent flash.new ≡ lent flash.old }
+    ensures answers_as_the_flash { result ≡ addressed (erase_answer (F.meaning flash.old) page) }
+    ensures leaves_one_page_erased { F.meaning flash.new ≡ erase_leaves (F.meaning flash.old) page }
+    ensures keeps_the_loans { F.lent flash.new ≡ F.lent flash.old }
 {
     flash.erase(page)?;
     Ok(())
@@ -30,7 +30,7 @@ pub fn erase<F: Flash>(flash: &mut F, page: u32) -> Result<(), MemoryFault>
 
 // An option word, one of the four.
 fn option_word<F: Flash>(flash: &F, i: u32) -> u32
-    ensures { result ≡ slice_index (meaning flash.now).options i }
+    ensures { result ≡ slice_index (F.meaning flash.now).options i }
 {
     match word_of(flash, Area::Options, i) {
         Some(word) => word,
@@ -40,7 +40,7 @@ fn option_word<F: Flash>(flash: &F, i: u32) -> u32
 
 // The four option words.
 pub fn option_words<F: Flash>(flash: &F) -> [u32; 4]
-    ensures are_the_option_words { result ≡ (meaning flash.now).options }
+    ensures are_the_option_words { result ≡ (F.meaning flash.now).options }
 {
     [
         option_word(flash, 0),
@@ -68,9 +68,9 @@ pub fn replace_options<F: Flash>(
     first: u32,
     words: &[u32],
 ) -> Result<(), MemoryFault>
-    ensures answers_as_the_flash { result ≡ addressed (options_answer (meaning flash.old)) }
-    ensures leaves_the_others { meaning flash.new ≡ options_leaves (meaning flash.old) (options_replaced first words.now (meaning flash.old).options) }
-    ensures keeps_the_loans { lent flash.new ≡ lent flash.old }
+    ensures answers_as_the_flash { result ≡ addressed (options_answer (F.meaning flash.old)) }
+    ensures leaves_the_others { F.meaning flash.new ≡ options_leaves (F.meaning flash.old) (options_replaced first words.now (F.meaning flash.old).options) }
+    ensures keeps_the_loans { F.lent flash.new ≡ F.lent flash.old }
 {
     let mut options = option_words(flash);
     overwrite(&mut options, first, words);

@@ -12,7 +12,7 @@ use flash::Flash;
 
 // A word of an area.
 pub(crate) fn word_of<F: Flash>(flash: &F, area: Area, i: u32) -> Option<u32>
-    ensures { result ≡ word_in (meaning flash.now) area i }
+    ensures { result ≡ word_in (F.meaning flash.now) area i }
 {
     let answer = match area {
         Area::User => flash.word(i),
@@ -27,7 +27,7 @@ pub(crate) fn word_of<F: Flash>(flash: &F, area: Area, i: u32) -> Option<u32>
 
 // Feeds so many user words, from `first` on, into a checksum that has come to `register`, and tells its register then.
 pub fn feed_words<F: Flash>(flash: &F, first: u32, count: u32, register: u16) -> u16
-    ensures is_the_register_after_the_words { result ≡ feeds register (bytes_of_words (words_at (meaning flash.now) User first count)) }
+    ensures is_the_register_after_the_words { result ≡ feeds register (bytes_of_words (words_at (F.meaning flash.now) User first count)) }
 {
     let mut sum = Checksum::resume(register);
     let mut at = first;
@@ -44,9 +44,9 @@ pub fn feed_words<F: Flash>(flash: &F, first: u32, count: u32, register: u16) ->
 // Puts so many words of an area, from `first` on, at the head of `out`, the low byte of each first, and tells how many
 // bytes they have. What does not fit is left out.
 pub fn copy_words<F: Flash>(flash: &F, area: Area, first: u32, count: u32, out: &mut [u8]) -> usize
-    ensures tells_how_many_bytes { result ≡ 4 * length (words_at (meaning flash.now) area first (min count (length out.old / 4))) }
+    ensures tells_how_many_bytes { result ≡ 4 * length (words_at (F.meaning flash.now) area first (min count (length out.old / 4))) }
     ensures stays_within_the_buffer { result ≤ length out.old }
-    ensures puts_the_words { take result out.new ≡ bytes_of_words (words_at (meaning flash.now) area first (min count (length out.old / 4))) }
+    ensures puts_the_words { take result out.new ≡ bytes_of_words (words_at (F.meaning flash.now) area first (min count (length out.old / 4))) }
     ensures leaves_the_rest { drop result out.new ≡ drop result out.old }
 {
     let most = (count as usize).min(out.len() / 4);

@@ -137,7 +137,7 @@ answers_alike pages other p q h g (e ∷ es) (f ∷ fs) t one =
     λ j. record { said = a.said j; report = report j } ∷ rest j
 
 pub locked_twins_answer_alike : LockedTwinsAnswerAlike
-locked_twins_answer_alike i m s j n t own other l x es fs one =
+locked_twins_answer_alike i j m n s t own other l x es fs one =
     answers_alike m.pages n.pages (run (started i m) own) (run (started j n) other) (history (started i m) own) (history (started j n) other) es fs
     (record {
       alike = x;

@@ -1,4 +1,6 @@
 // The part: definitions of what it does for every byte, call, reset and power cut, and the laws over whole runs.
+#![tactic(auto)]
+
 mod identity;
 mod laws;
 mod report;

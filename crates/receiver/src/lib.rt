@@ -1,4 +1,6 @@
 // The receiver's side of a loader: bytes become frames, and a whole frame becomes an order. It knows no flash.
+#![tactic(auto)]
+
 mod deciding;
 mod receiver;
 mod state;

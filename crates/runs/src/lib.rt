@@ -1,4 +1,6 @@
 // Lists of events, done to a loader over any flash, and the answers written down.
+#![tactic(auto)]
+
 mod events;
 mod playing;
 

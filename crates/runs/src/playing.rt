@@ -50,7 +50,7 @@ fn receive<F: Flash>(
     byte: u8,
     room: usize,
 ) -> Result<Said, AllocError>
-    ensures { IfOk result (λ s. (said_of s ≡ byte_says (part_running meaning part.old) byte room) × (part_running meaning part.new ≡ byte_leaves (part_running meaning part.old) byte room)) }
+    ensures { IfOk result (λ s. (said_of s ≡ byte_says (part_running F.meaning part.old) byte room) × (part_running F.meaning part.new ≡ byte_leaves (part_running F.meaning part.old) byte room)) }
 {
     let mut buffer = vec![in heap; 0u8; room]?;
     let received = part.receive(byte, buffer.as_mut_slice());
@@ -59,7 +59,7 @@ fn receive<F: Flash>(
 
 // One work call.
 fn work<F: Flash>(heap: Global, part: &mut Running<F>, room: usize) -> Result<Said, AllocError>
-    ensures { IfOk result (λ s. (said_of s ≡ work_says (part_running meaning part.old) room) × (part_running meaning part.new ≡ work_leaves (part_running meaning part.old) room)) }
+    ensures { IfOk result (λ s. (said_of s ≡ work_says (part_running F.meaning part.old) room) × (part_running F.meaning part.new ≡ work_leaves (part_running F.meaning part.old) room)) }
 {
     let mut buffer = vec![in heap; 0u8; room]?;
     let answer = part.work(buffer.as_mut_slice());
@@ -68,7 +68,7 @@ fn work<F: Flash>(heap: Global, part: &mut Running<F>, room: usize) -> Result<Sa
 
 // The answer to one event.
 fn respond<F: Flash>(heap: Global, part: &mut Running<F>, event: Event) -> Result<Said, AllocError>
-    ensures { IfOk result (λ s. (said_of s ≡ says (part_running meaning part.old) (event_of event)) × (part_running meaning part.new ≡ step (part_running meaning part.old) (event_of event))) }
+    ensures { IfOk result (λ s. (said_of s ≡ says (part_running F.meaning part.old) (event_of event)) × (part_running F.meaning part.new ≡ step (part_running F.meaning part.old) (event_of event))) }
 {
     match event {
         Event::Byte { byte, room } => receive(heap, part, byte, room),
@@ -87,8 +87,8 @@ pub fn do_event<F: Flash>(
     part: &mut Running<F>,
     event: Event,
 ) -> Result<Row, AllocError>
-    ensures tells_the_answer_as_defined { IfOk result (λ row. row_of row ≡ row_at (part_running meaning part.old) (event_of event)) }
-    ensures leaves_the_part_as_defined { OnOk result (part_running meaning part.new ≡ step (part_running meaning part.old) (event_of event)) }
+    ensures tells_the_answer_as_defined { IfOk result (λ row. row_of row ≡ row_at (part_running F.meaning part.old) (event_of event)) }
+    ensures leaves_the_part_as_defined { OnOk result (part_running F.meaning part.new ≡ step (part_running F.meaning part.old) (event_of event)) }
 {
     let said = respond(heap, part, event)?;
     Ok(Row {
@@ -103,8 +103,8 @@ pub fn play<F: Flash>(
     part: &mut Running<F>,
     events: &[Event],
 ) -> Result<Vec<Row>, AllocError>
-    ensures writes_down_the_answers_as_defined { IfOk result (λ rows. rows_of rows.items ≡ answers (part_running meaning part.old) (events_of events.now)) }
-    ensures leaves_the_part_as_the_list_does { OnOk result (part_running meaning part.new ≡ run (part_running meaning part.old) (events_of events.now)) }
+    ensures writes_down_the_answers_as_defined { IfOk result (λ rows. rows_of rows.items ≡ answers (part_running F.meaning part.old) (events_of events.now)) }
+    ensures leaves_the_part_as_the_list_does { OnOk result (part_running F.meaning part.new ≡ run (part_running F.meaning part.old) (events_of events.now)) }
 {
     let mut rows = Vec::new(heap);
     for event in events {

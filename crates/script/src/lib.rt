@@ -1,4 +1,6 @@
 // The forms of the frame tool, as `(read 08000000 4)`: what each asks for, and the line that answers it.
+#![tactic(auto)]
+
 mod form;
 mod parser;
 mod replies;

@@ -1,4 +1,6 @@
 // Lines of words such as `(read 08000000 4)`: their words, their numbers, and lines made word by word.
+#![tactic(auto)]
+
 pub mod decimal;
 pub mod hexadecimal;
 mod output;

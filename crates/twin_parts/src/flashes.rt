@@ -8,7 +8,7 @@ use memory::option_words;
 
 // The erases left of a page; 0 where there is no such page.
 fn erases_left<F: Flash>(flash: &F, page: u32) -> u32
-    ensures { result ≡ slice_index (meaning flash.now).erases_left page }
+    ensures { result ≡ slice_index (F.meaning flash.now).erases_left page }
 {
     match flash.erases_left(page) {
         Ok(left) => left,
@@ -18,8 +18,8 @@ fn erases_left<F: Flash>(flash: &F, page: u32) -> u32
 
 // Whether the erases left of all pages are equal, where there are as many pages.
 fn same_wear<F: Flash, G: Flash>(a: &F, b: &G, pages: u32) -> bool
-    requires { (pages ≡ (F.Flash.meaning a.now).pages) × (pages ≡ (G.Flash.meaning b.now).pages) }
-    ensures { Decides result ((F.Flash.meaning a.now).erases_left ≡ (G.Flash.meaning b.now).erases_left) }
+    requires { (pages ≡ (F.meaning a.now).pages) × (pages ≡ (G.meaning b.now).pages) }
+    ensures { Decides result ((F.meaning a.now).erases_left ≡ (G.meaning b.now).erases_left) }
 {
     for page in 0..pages {
         if erases_left(a, page) != erases_left(b, page) {
@@ -31,7 +31,7 @@ fn same_wear<F: Flash, G: Flash>(a: &F, b: &G, pages: u32) -> bool
 
 // Whether two flashes agree in all but their user words.
 pub fn same_but_words<F: Flash, G: Flash>(a: &F, b: &G) -> bool
-    ensures tells_whether_they_agree_in_all_but_user_words { Decides result (without_words (F.Flash.meaning a.now) ≡ without_words (G.Flash.meaning b.now)) }
+    ensures tells_whether_they_agree_in_all_but_user_words { Decides result (without_words (F.meaning a.now) ≡ without_words (G.meaning b.now)) }
 {
     a.pages() == b.pages()
         && same_words(&option_words(a), &option_words(b))

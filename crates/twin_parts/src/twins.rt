@@ -52,8 +52,8 @@ fn same_report(a: Option<CommandFault>, b: Option<CommandFault>) -> bool
 // Whether two parts are locked twins: both at level 1, and equal in all but their user words. From there one list gets equal
 // answers from both, for good.
 pub fn locked_twins<F: Flash, G: Flash>(a: &Loader<F>, b: &Loader<G>) -> bool
-    ensures tells_whether_they_are_locked_twins { Decides result (LockedTwins (part_of F.Flash.meaning a.now) (part_of G.Flash.meaning b.now)) }
-    ensures locked_twins_answer_alike_for_good { result ≡ true → AlikeForGood (part_of F.Flash.meaning a.now) (part_of G.Flash.meaning b.now) }
+    ensures tells_whether_they_are_locked_twins { Decides result (LockedTwins (part_of F.meaning a.now) (part_of G.meaning b.now)) }
+    ensures locked_twins_answer_alike_for_good { result ≡ true → AlikeForGood (part_of F.meaning a.now) (part_of G.meaning b.now) }
 {
     if !locked(a.level()) {
         return false;

@@ -27,10 +27,10 @@ fn level_in(word: u32) -> Level
 
 // Starts a loader on a flash: unconnected, no command in hand, no fault, the level loaded from option word 0.
 pub fn start<F: Flash>(flash: F, identity: Identity) -> Loader<F>
-    ensures is_a_part_as_it_starts { part_of meaning result ≡ started identity (meaning flash) }
-    ensures locked_twins_answer_alike_for_good { AnswersAsItsLockedTwins (part_of meaning result) }
-    ensures opens_only_once_every_page_is_erased { OpensErased (part_of meaning result) }
-    ensures memory_crc_answers_for_the_whole_stretch { ChecksWholeStretches (part_of meaning result) }
+    ensures is_a_part_as_it_starts { part_of F.meaning result ≡ started identity (F.meaning flash) }
+    ensures locked_twins_answer_alike_for_good { AnswersAsItsLockedTwins (part_of F.meaning result) }
+    ensures opens_only_once_every_page_is_erased { OpensErased (part_of F.meaning result) }
+    ensures memory_crc_answers_for_the_whole_stretch { ChecksWholeStretches (part_of F.meaning result) }
 {
     let [word, _, _, _] = memory::option_words(&flash);
     Loader {
@@ -44,7 +44,7 @@ pub fn start<F: Flash>(flash: F, identity: Identity) -> Loader<F>
 
 // Takes back a ticket and starts the loader again. Any ticket does: one of another part restarts this part all the same.
 pub fn reset<F: Flash>(ticket: Ticket, mut loader: Loader<F>) -> Loader<F>
-    ensures is_the_part_started_again { part_of meaning result ≡ restarted (part_of meaning loader) }
+    ensures is_the_part_started_again { part_of F.meaning result ≡ restarted (part_of F.meaning loader) }
 {
     ticket.spend();
     loader.restart();
@@ -71,7 +71,7 @@ pub fn off<F: Flash>(loader: Loader<F>, ticket: Option<Ticket>) -> F
 impl<F: Flash> Loader<F> {
     // Starts again, on the same flash and with the same identity.
     pub(crate) fn restart(&mut self)
-        ensures { part_of meaning self.new ≡ restarted (part_of meaning self.old) }
+        ensures { part_of F.meaning self.new ≡ restarted (part_of F.meaning self.old) }
     {
         let [word, _, _, _] = memory::option_words(&self.flash);
         self.level = level_in(word);
@@ -81,7 +81,7 @@ impl<F: Flash> Loader<F> {
 
     // The last fault report.
     pub fn fault(&self) -> Option<CommandFault>
-        ensures is_the_last_report { result ≡ (part_of meaning self.now).last }
+        ensures is_the_last_report { result ≡ (part_of F.meaning self.now).last }
     {
         self.last
     }

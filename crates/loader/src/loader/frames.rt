@@ -17,9 +17,9 @@ impl<F: Flash> Loader<F> {
     fn obey(&mut self, buffer: &mut [u8]) -> Received
         requires room { 518 ≤ length buffer.old }
         requires whole { self.old.receiver.state ≡ Between }
-        ensures answers { result ≡ received_as (byte_said (order_of meaning self.old).reply) }
-        ensures leaves { part_of meaning self.new ≡ after_byte (part_of meaning self.old) (order_of meaning self.old) }
-        ensures puts { buffer.new ≡ headed (said_bytes (byte_said (order_of meaning self.old).reply)) buffer.old }
+        ensures answers { result ≡ received_as (byte_said (order_of F.meaning self.old).reply) }
+        ensures leaves { part_of F.meaning self.new ≡ after_byte (part_of F.meaning self.old) (order_of F.meaning self.old) }
+        ensures puts { buffer.new ≡ headed (said_bytes (byte_said (order_of F.meaning self.old).reply)) buffer.old }
     {
         let pages = self.flash.pages();
         match decide(self.receiver.frame(), self.level, pages) {
@@ -44,9 +44,9 @@ impl<F: Flash> Loader<F> {
 
     // Takes one byte.
     pub fn receive(&mut self, byte: u8, buffer: &mut [u8]) -> Received
-        ensures answers_as_defined { result ≡ received_as (byte_says (part_of meaning self.old) byte (length buffer.old)) }
-        ensures leaves_the_part_as_defined { part_of meaning self.new ≡ byte_leaves (part_of meaning self.old) byte (length buffer.old) }
-        ensures puts_the_answer_and_no_more { buffer.new ≡ headed (said_bytes (byte_says (part_of meaning self.old) byte (length buffer.old))) buffer.old }
+        ensures answers_as_defined { result ≡ received_as (byte_says (part_of F.meaning self.old) byte (length buffer.old)) }
+        ensures leaves_the_part_as_defined { part_of F.meaning self.new ≡ byte_leaves (part_of F.meaning self.old) byte (length buffer.old) }
+        ensures puts_the_answer_and_no_more { buffer.new ≡ headed (said_bytes (byte_says (part_of F.meaning self.old) byte (length buffer.old))) buffer.old }
     {
         if buffer.len() < 518 {
             return Received::SmallBuffer;

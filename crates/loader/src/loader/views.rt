@@ -11,14 +11,14 @@ use receiver::Receiver;
 impl<F: Flash> Loader<F> {
     // What the part is known by.
     pub fn identity(&self) -> Identity
-        ensures is_its_identity { result ≡ (part_of meaning self.now).identity }
+        ensures is_its_identity { result ≡ (part_of F.meaning self.now).identity }
     {
         self.identity
     }
 
     // The level that was loaded at the start.
     pub fn level(&self) -> Level
-        ensures is_the_level_in_force { result ≡ (part_of meaning self.now).level }
+        ensures is_the_level_in_force { result ≡ (part_of F.meaning self.now).level }
     {
         self.level
     }

@@ -23,9 +23,9 @@ impl<F: Flash> Loader<F> {
         requires busy { self.old.receiver.state ≡ Busy task }
         requires sums_fit { bounded task ≡ true }
         requires no_ticket { ticket_for task ≡ false }
-        ensures answers { result ≡ worked_as (work_said (next_portion (part_of meaning self.old)).outcome) }
-        ensures leaves { part_of meaning self.new ≡ after_portion (part_of meaning self.old) (next_portion (part_of meaning self.old)) }
-        ensures puts { buffer.new ≡ headed (said_bytes (work_said (next_portion (part_of meaning self.old)).outcome)) buffer.old }
+        ensures answers { result ≡ worked_as (work_said (next_portion (part_of F.meaning self.old)).outcome) }
+        ensures leaves { part_of F.meaning self.new ≡ after_portion (part_of F.meaning self.old) (next_portion (part_of F.meaning self.old)) }
+        ensures puts { buffer.new ≡ headed (said_bytes (work_said (next_portion (part_of F.meaning self.old)).outcome)) buffer.old }
     {
         match next_portion(&mut self.flash, self.receiver.store(), task) {
             Ok(Progress::Going(task)) => {
@@ -54,9 +54,9 @@ impl<F: Flash> Loader<F> {
 
     // Does the next portion of the command in hand, if there is one.
     pub fn work(&mut self, buffer: &mut [u8]) -> Worked
-        ensures answers_as_defined { result ≡ worked_as (work_says (part_of meaning self.old) (length buffer.old)) }
-        ensures leaves_the_part_as_defined { part_of meaning self.new ≡ work_leaves (part_of meaning self.old) (length buffer.old) }
-        ensures puts_the_answer_and_no_more { buffer.new ≡ headed (said_bytes (work_says (part_of meaning self.old) (length buffer.old))) buffer.old }
+        ensures answers_as_defined { result ≡ worked_as (work_says (part_of F.meaning self.old) (length buffer.old)) }
+        ensures leaves_the_part_as_defined { part_of F.meaning self.new ≡ work_leaves (part_of F.meaning self.old) (length buffer.old) }
+        ensures puts_the_answer_and_no_more { buffer.new ≡ headed (said_bytes (work_says (part_of F.meaning self.old) (length buffer.old))) buffer.old }
     {
         if buffer.len() < 518 {
             return Worked::SmallBuffer;

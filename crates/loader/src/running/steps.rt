@@ -16,7 +16,7 @@ use part::{CommandFault, Identity};
 impl<F: Flash> Running<F> {
     // Starts a part.
     pub fn start(flash: F, identity: Identity) -> Running<F>
-        ensures is_a_part_as_it_starts { part_running meaning result ≡ started identity (meaning flash) }
+        ensures is_a_part_as_it_starts { part_running F.meaning result ≡ started identity (F.meaning flash) }
     {
         Running {
             loader: start(flash, identity),
@@ -26,18 +26,18 @@ impl<F: Flash> Running<F> {
 
     // One byte is received.
     pub fn receive(&mut self, byte: u8, buffer: &mut [u8]) -> Received
-        ensures answers_as_defined { result ≡ received_as (byte_says (part_running meaning self.old) byte (length buffer.old)) }
-        ensures leaves_the_part_as_defined { part_running meaning self.new ≡ byte_leaves (part_running meaning self.old) byte (length buffer.old) }
-        ensures puts_the_answer_and_no_more { buffer.new ≡ headed (said_bytes (byte_says (part_running meaning self.old) byte (length buffer.old))) buffer.old }
+        ensures answers_as_defined { result ≡ received_as (byte_says (part_running F.meaning self.old) byte (length buffer.old)) }
+        ensures leaves_the_part_as_defined { part_running F.meaning self.new ≡ byte_leaves (part_running F.meaning self.old) byte (length buffer.old) }
+        ensures puts_the_answer_and_no_more { buffer.new ≡ headed (said_bytes (byte_says (part_running F.meaning self.old) byte (length buffer.old))) buffer.old }
     {
         self.loader.receive(byte, buffer)
     }
 
     // One work call. A ticket that comes is kept.
     pub fn work(&mut self, buffer: &mut [u8]) -> Answer
-        ensures answers_as_defined { result ≡ answered_as (work_says (part_running meaning self.old) (length buffer.old)) }
-        ensures leaves_the_part_as_defined { part_running meaning self.new ≡ work_leaves (part_running meaning self.old) (length buffer.old) }
-        ensures puts_the_answer_and_no_more { buffer.new ≡ headed (said_bytes (work_says (part_running meaning self.old) (length buffer.old))) buffer.old }
+        ensures answers_as_defined { result ≡ answered_as (work_says (part_running F.meaning self.old) (length buffer.old)) }
+        ensures leaves_the_part_as_defined { part_running F.meaning self.new ≡ work_leaves (part_running F.meaning self.old) (length buffer.old) }
+        ensures puts_the_answer_and_no_more { buffer.new ≡ headed (said_bytes (work_says (part_running F.meaning self.old) (length buffer.old))) buffer.old }
     {
         match self.loader.work(buffer) {
             Worked::SmallBuffer => Answer::SmallBuffer,
@@ -55,15 +55,15 @@ impl<F: Flash> Running<F> {
 
     // The last fault report.
     pub fn fault(&self) -> Option<CommandFault>
-        ensures is_the_last_report { result ≡ (part_running meaning self.now).last }
+        ensures is_the_last_report { result ≡ (part_running F.meaning self.now).last }
     {
         self.loader.fault()
     }
 
     // Spends the ticket if it is out, and tells whether it was.
     pub fn reset(&mut self) -> bool
-        ensures tells_whether_the_ticket_was_out { result ≡ (part_running meaning self.old).ticket }
-        ensures leaves_the_part_as_defined { part_running meaning self.new ≡ reset_leaves (part_running meaning self.old) }
+        ensures tells_whether_the_ticket_was_out { result ≡ (part_running F.meaning self.old).ticket }
+        ensures leaves_the_part_as_defined { part_running F.meaning self.new ≡ reset_leaves (part_running F.meaning self.old) }
     {
         let Some(ticket) = self.ticket.take() else {
             return false;
@@ -82,7 +82,7 @@ impl<F: Flash> Running<F> {
 
     // Switches the part off and gives back the flash.
     pub fn off(self) -> F
-        ensures gives_back_the_flash { meaning result ≡ (part_running meaning self).flash }
+        ensures gives_back_the_flash { F.meaning result ≡ (part_running F.meaning self).flash }
     {
         let Running { loader, ticket } = self;
         off(loader, ticket)

@@ -6,5 +6,5 @@ use Rattle.bench_script.proofs.sayings.said_line.Goals as goal
 pub returns-in-NoTicket : goal.returns-in-NoTicket
 returns-in-NoTicket c = record {
   is_the_line_of_what_is_said =
-      IfOk-weaker c.from_slice-in-NoTicket.result _ _ (λ v e. e.0 ∙ sym (ap line_of c.in-NoTicket.is)) c.from_slice-in-NoTicket.ensures.made;
+      IfOk-weaker c.from_slice-in-NoTicket.result _ _ (λ v e. e ∙ sym (ap line_of c.in-NoTicket.is)) c.from_slice-in-NoTicket.ensures.items;
 }

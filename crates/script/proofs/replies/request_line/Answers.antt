@@ -5,9 +5,9 @@ use Rattle.script.specs.Answering.{frame_line}
 use Rattle.script.proofs.Frames.{frame_counted, frame_refused}
 use Rattle.script.proofs.replies.request_line.Goals as goal
 
-pub slice-bounds-bytes_line-end : goal.slice-bounds-bytes_line-end
+pub slice_bounds-bytes_line-end : goal.slice_bounds-bytes_line-end
 unfolding written_count written_buffer
-slice-bounds-bytes_line-end c =
+slice_bounds-bytes_line-end c =
     (frame_counted (written (asking c.args.request)) c.in-Ok.count (replicate 522 0) c.write_request.new.buffer
     c.in-Ok.ensures.tells_how_many_bytes_or_the_first_refusal c.write_request.ensures.writes_the_frame_and_no_more).0
 

@@ -5,8 +5,8 @@ use Rattle.text.proofs.hexadecimal.long.Goals as goal
 
 pub returns-in_err-low : goal.returns-in_err-low
 returns-in_err-low c =
-    let e : c.from-residual-in_err-low.result ≡ long_in c.args.word.now =
-    c.from-residual-in_err-low.ensures ∙ long_low_none c.args.word.now c.if-word-ne8.false c.in_err-low.ensures.reads_four_digits in
+    let e : c.from_residual-in_err-low.result ≡ long_in c.args.word.now =
+    c.from_residual-in_err-low.ensures ∙ long_low_none c.args.word.now c.if-word-ne8.false c.in_err-low.ensures.reads_four_digits in
     record { reads_eight_digits = e; is_the_number_whose_text_the_word_is = long_reads c.args.word.now _ e }
 
 pub returns : goal.returns

@@ -56,7 +56,7 @@ returns c =
     record {
       leaves = tables_erased m.pages _ (both joined_halves ls hs) _ (both min (map left_of lrs) (map left_of hrs)) _ f.options f.option_writes p pages words lefts below filled;
       loans = λ j. record {
-        names = f.low.ghost_name ∷ f.high.ghost_name ∷ f.low_records.name ∷ f.high_records.name ∷ [];
+        names = f.low.ghost_name ∷ f.high.ghost_name ∷ f.low_records.ghost_name ∷ f.high_records.ghost_name ∷ [];
         outside = OutsideLow j ++ OutsideHigh j;
       };
     }

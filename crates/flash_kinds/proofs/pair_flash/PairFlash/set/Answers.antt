@@ -31,7 +31,7 @@ returns c =
     record {
       leaves = tables_programmed m.pages _ (both joined_halves ls hs) _ lefts lefts f.options f.option_writes i v pages words refl has;
       loans = λ j. record {
-        names = f.low.ghost_name ∷ f.high.ghost_name ∷ f.low_records.name ∷ f.high_records.name ∷ [];
+        names = f.low.ghost_name ∷ f.high.ghost_name ∷ f.low_records.ghost_name ∷ f.high_records.ghost_name ∷ [];
         outside = OutsideLow j ++ OutsideHigh j;
       };
     }

@@ -8,4 +8,4 @@ returns c =
     let ws = c.args.self.now.words.now in
     let i = c.args.i in
     let has : i < length ws = omega arith in
-    read_as_word _ ws i _ c.requires c.at.type-inv (get_or_read ws i _ has c.at.ensures 0)
+    read_as_word _ ws i _ c.requires c.at.type_inv (get_or_read ws i _ has c.at.ensures 0)

@@ -14,7 +14,7 @@ returns g c =
     let e : part_of g.F.Flash.meaning (record { flash = c.args.flash; identity = i; level = c.level_in.result; last = None; receiver = c.new.result }) ≡ started i m = search rules in
     record {
       is_a_part_as_it_starts = e;
-      locked_twins_answer_alike_for_good = subst AnswersAsItsLockedTwins (sym e) (locked_twins_answer_alike i m sound);
+      locked_twins_answer_alike_for_good = subst AnswersAsItsLockedTwins (sym e) (λ j n t. locked_twins_answer_alike i j m n sound t);
       opens_only_once_every_page_is_erased = subst OpensErased (sym e) (opens_only_erased i m sound);
       memory_crc_answers_for_the_whole_stretch = subst ChecksWholeStretches (sym e) (checks_answer_for_the_stretch i m);
     }

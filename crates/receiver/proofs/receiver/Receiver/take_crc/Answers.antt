@@ -9,8 +9,8 @@ length_field-requires c =
     let k = in_crc c.args.self.now.state (held c.args.self.now.store) c.requires c.args.self.now.kept in
     omega (arith, length_more _ _ _ c.push.ensures)
 
-pub invariant-of-self : goal.invariant-of-self
-invariant-of-self c =
+pub invariant_of-self : goal.invariant_of-self
+invariant_of-self c =
     let f = held c.args.self.now.store in
     let g = held c.push.new.self in
     let k = in_crc c.args.self.now.state f c.requires c.args.self.now.kept in
@@ -18,7 +18,7 @@ invariant-of-self c =
     let h : 4 ≤ length f = omega arith in
     let d = field_more f g c.args.byte c.push.ensures h in
     let n = c.count.ensures.is_the_number_of_bytes in
-    (to_crc c.args.self.now.state g c.requires (record { some = omega (arith, d); most = omega (arith, d); from = omega arith; to = omega arith }), tt)
+    record { kept = to_crc c.args.self.now.state g c.requires (record { some = omega (arith, d); most = omega (arith, d); from = omega arith; to = omega arith }) }
 
 pub returns-then-count-length_field : goal.returns-then-count-length_field
 returns-then-count-length_field c =

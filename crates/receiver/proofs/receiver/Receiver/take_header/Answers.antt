@@ -4,15 +4,15 @@ use Rattle.receiver.specs.Stores.{held}
 use Rattle.receiver.proofs.Frames.{in_header, to_header, to_data, length_more, heard_short, heard_long, heard_open, heard_whole, waits, header_wire, free}
 use Rattle.receiver.proofs.receiver.Receiver.take_header.Goals as goal
 
-pub invariant-of-self : goal.invariant-of-self
-invariant-of-self c =
+pub invariant_of-self : goal.invariant_of-self
+invariant_of-self c =
     let s = c.args.self.now.state in
     let f = held c.args.self.now.store in
     let g = held c.push.new.self in
     let k = in_header s f c.requires c.args.self.now.kept in
     let l = length_more f g c.args.byte c.push.ensures in
     let n = c.count.ensures.is_the_number_of_bytes in
-    (to_header s g c.requires (record { some = omega arith; short = omega arith }), tt)
+    record { kept = to_header s g c.requires (record { some = omega arith; short = omega arith }) }
 
 pub returns-then-count-lt4 : goal.returns-then-count-lt4
 returns-then-count-lt4 c =
@@ -58,8 +58,8 @@ returns-then-count-eq0 c =
       after = λ e. refl;
     }
 
-pub invariant-of-self-2 : goal.invariant-of-self-2
-invariant-of-self-2 c =
+pub invariant_of-self-2 : goal.invariant_of-self-2
+invariant_of-self-2 c =
     let s = c.args.self.now.state in
     let f = held c.args.self.now.store in
     let g = held c.push.new.self in
@@ -67,7 +67,7 @@ invariant-of-self-2 c =
     let l = length_more f g c.args.byte c.push.ensures in
     let n = c.count.ensures.is_the_number_of_bytes in
     let d = c.length_field-count.ensures in
-    (to_data _ g refl (record { some = omega arith; most = omega arith; from = omega arith; to = omega arith }), tt)
+    record { kept = to_data _ g refl (record { some = omega arith; most = omega arith; from = omega arith; to = omega arith }) }
 
 pub returns : goal.returns
 returns c =
