@@ -109,6 +109,7 @@ APART = {"high-records": "high_records_of", "low-records": "low_records_of"}
 def own(word):
     if word in APART:
         return APART[word]
+    word = re.sub(r"^getD(?=[-_])", "get_or", word)  # the library's word for it is get_or now
     if word in facts:
         return camel(word)
     return (camel(word) if word[:1].isupper() and "-" in word else word.replace("-", "_")).replace("′", "'")

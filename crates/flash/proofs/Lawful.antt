@@ -4,12 +4,12 @@ use Rattle.std.proofs.lemmas.List.{get_or-set_same, get_or-set_other, set_past, 
 use Rattle.std.proofs.lemmas.Bool.Decides.{nat_tests}
 use Rattle.flash.specs.declared.fault.FlashFault.{FlashFault}
 use Rattle.flash.specs.Lists.{overwritten, as_words}
-use Rattle.flash.specs.Words.{length_as_words, as_words_fit, getD_as_words}
+use Rattle.flash.specs.Words.{length_as_words, as_words_fit, get_or_as_words}
 use Rattle.flash.specs.Meaning.{Meaning, Sound, blank, blank_page, page_written, with_word, with_page, with_erase_taken, with_options, with_option_write_taken}
 use Rattle.flash.specs.Effects.{Write, no_write, program_word, erase_page, set_options, written, word_answer, option_word_answer, program_answer, program_leaves, erase_answer, erase_leaves, options_answer, options_leaves}
 use Rattle.flash.specs.Cuts.{Way, old, new, junk, cut_written, junk_written}
 use Rattle.flash.specs.Laws.{AltersOnly, CutsAlterOnlyTheirWrite, CutsKeepLimits, RefusalsWriteNothing, WritesAreReadBack}
-use Rattle.flash.proofs.Overwrites.{length_overwritten, getD_overwritten_in, getD_overwritten_out}
+use Rattle.flash.proofs.Overwrites.{length_overwritten, get_or_overwritten_in, get_or_overwritten_out}
 
 -- the words with a page written
 page_out : (p i : ℕ) (ws xs : List ℕ) → ((128 * p ≤ i) × (i < 128 * p + 128) → ⊥) →
@@ -17,14 +17,14 @@ page_out : (p i : ℕ) (ws xs : List ℕ) → ((128 * p ≤ i) × (i < 128 * p +
 unfolding page_written
 page_out p i ws xs h =
     let l = length_as_words 128 ws in
-    getD_overwritten_out (128 * p) i (as_words 128 ws) xs 0 (λ k. h (k.0, omega (arith, l)))
+    get_or_overwritten_out (128 * p) i (as_words 128 ws) xs 0 (λ k. h (k.0, omega (arith, l)))
 
 page_in : (p k : ℕ) (ws xs : List ℕ) → k < 128 → 128 * p + k < length xs →
     get_or (page_written p ws xs) (128 * p + k) 0 ≡ get_or ws k 0 % 2 ^ 32
 unfolding page_written
 page_in p k ws xs h l =
     let e = length_as_words 128 ws in
-    getD_overwritten_in (128 * p) k (as_words 128 ws) xs 0 (omega arith) l ∙ getD_as_words 128 ws k h
+    get_or_overwritten_in (128 * p) k (as_words 128 ws) xs 0 (omega arith) l ∙ get_or_as_words 128 ws k h
 
 length_page : (p : ℕ) (ws xs : List ℕ) → length (page_written p ws xs) ≡ length xs
 unfolding page_written
@@ -228,7 +228,7 @@ options_read : (m : Meaning) (os : List ℕ) (k : ℕ) → options_answer m ≡ 
 options_read m os k e l =
     let done : options_leaves m os ≡ written (set_options os) m = grind (arith, nat_tests) in
     ap (λ n. option_word_answer n k) done
-    ∙ sym (option_read (written (set_options os) m) k _ l (sym (getD_as_words 4 os k l)))
+    ∙ sym (option_read (written (set_options os) m) k _ l (sym (get_or_as_words 4 os k l)))
 
 junk_read : (m : Meaning) (p k : ℕ) (us os : List ℕ) (falls : Bool) → Sound m → p < m.pages → k < 128 →
     word_answer (cut_written (junk us os falls) (erase_page p) m) (128 * p + k) ≡ Ok (get_or us k 0 % 2 ^ 32)

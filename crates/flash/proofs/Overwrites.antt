@@ -45,24 +45,24 @@ module _ {A : Type 0} where
   drop_overwritten zero (suc n) ws (x ∷ xs) h = absurd (omega arith)
   drop_overwritten (suc m) (suc n) ws (x ∷ xs) h = drop_overwritten m n ws xs (omega arith)
 
-  pub getD_overwritten_in : (n k : ℕ) (ws xs : List A) (d : A) → k < length ws → n + k < length xs →
+  pub get_or_overwritten_in : (n k : ℕ) (ws xs : List A) (d : A) → k < length ws → n + k < length xs →
       get_or (overwritten n ws xs) (n + k) d ≡ get_or ws k d
-  getD_overwritten_in zero k [] xs d h l = absurd (omega arith)
-  getD_overwritten_in zero k (w ∷ ws) [] d h l = absurd (omega arith)
-  getD_overwritten_in zero zero (w ∷ ws) (x ∷ xs) d h l = refl
-  getD_overwritten_in zero (suc k) (w ∷ ws) (x ∷ xs) d h l =
-      let e = getD_overwritten_in zero k ws xs d (omega arith) (omega arith) in
+  get_or_overwritten_in zero k [] xs d h l = absurd (omega arith)
+  get_or_overwritten_in zero k (w ∷ ws) [] d h l = absurd (omega arith)
+  get_or_overwritten_in zero zero (w ∷ ws) (x ∷ xs) d h l = refl
+  get_or_overwritten_in zero (suc k) (w ∷ ws) (x ∷ xs) d h l =
+      let e = get_or_overwritten_in zero k ws xs d (omega arith) (omega arith) in
       rw zero-add (rw zero-add at e)
-  getD_overwritten_in (suc n) k ws [] d h l = absurd (omega arith)
-  getD_overwritten_in (suc n) k ws (x ∷ xs) d h l = rw suc-add (getD_overwritten_in n k ws xs d h (omega arith))
+  get_or_overwritten_in (suc n) k ws [] d h l = absurd (omega arith)
+  get_or_overwritten_in (suc n) k ws (x ∷ xs) d h l = rw suc-add (get_or_overwritten_in n k ws xs d h (omega arith))
 
-  pub getD_overwritten_out : (n i : ℕ) (ws xs : List A) (d : A) → ((n ≤ i) × (i < n + length ws) → ⊥) →
+  pub get_or_overwritten_out : (n i : ℕ) (ws xs : List A) (d : A) → ((n ≤ i) × (i < n + length ws) → ⊥) →
       get_or (overwritten n ws xs) i d ≡ get_or xs i d
-  getD_overwritten_out zero i [] xs d h = refl
-  getD_overwritten_out zero i (w ∷ ws) [] d h = refl
-  getD_overwritten_out zero zero (w ∷ ws) (x ∷ xs) d h = absurd (h (omega arith, omega arith))
-  getD_overwritten_out zero (suc i) (w ∷ ws) (x ∷ xs) d h =
-      getD_overwritten_out zero i ws xs d (λ k. h (omega arith, omega arith))
-  getD_overwritten_out (suc n) i ws [] d h = refl
-  getD_overwritten_out (suc n) zero ws (x ∷ xs) d h = refl
-  getD_overwritten_out (suc n) (suc i) ws (x ∷ xs) d h = getD_overwritten_out n i ws xs d (λ k. h (omega arith, omega arith))
+  get_or_overwritten_out zero i [] xs d h = refl
+  get_or_overwritten_out zero i (w ∷ ws) [] d h = refl
+  get_or_overwritten_out zero zero (w ∷ ws) (x ∷ xs) d h = absurd (h (omega arith, omega arith))
+  get_or_overwritten_out zero (suc i) (w ∷ ws) (x ∷ xs) d h =
+      get_or_overwritten_out zero i ws xs d (λ k. h (omega arith, omega arith))
+  get_or_overwritten_out (suc n) i ws [] d h = refl
+  get_or_overwritten_out (suc n) zero ws (x ∷ xs) d h = refl
+  get_or_overwritten_out (suc n) (suc i) ws (x ∷ xs) d h = get_or_overwritten_out n i ws xs d (λ k. h (omega arith, omega arith))

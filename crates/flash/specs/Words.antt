@@ -16,12 +16,12 @@ as_words_fit (suc n) [] (suc i) = as_words_fit n [] i
 as_words_fit (suc n) (w ∷ ws) zero = mod-lt w (lit< tt)
 as_words_fit (suc n) (w ∷ ws) (suc i) = as_words_fit n ws i
 
-pub getD_as_words : (n : ℕ) (ws : List ℕ) (i : ℕ) → i < n → slice_index (as_words n ws) i ≡ slice_index ws i % 2 ^ 32
-getD_as_words zero ws i h = absurd (omega arith)
-getD_as_words (suc n) [] zero h = refl
-getD_as_words (suc n) [] (suc i) h = getD_as_words n [] i (omega arith)
-getD_as_words (suc n) (w ∷ ws) zero h = refl
-getD_as_words (suc n) (w ∷ ws) (suc i) h = getD_as_words n ws i (omega arith)
+pub get_or_as_words : (n : ℕ) (ws : List ℕ) (i : ℕ) → i < n → slice_index (as_words n ws) i ≡ slice_index ws i % 2 ^ 32
+get_or_as_words zero ws i h = absurd (omega arith)
+get_or_as_words (suc n) [] zero h = refl
+get_or_as_words (suc n) [] (suc i) h = get_or_as_words n [] i (omega arith)
+get_or_as_words (suc n) (w ∷ ws) zero h = refl
+get_or_as_words (suc n) (w ∷ ws) (suc i) h = get_or_as_words n ws i (omega arith)
 
 pub as_words_set : (n : ℕ) (ws : List ℕ) (i v : ℕ) → i < length ws →
     as_words n (slice_set ws i v) ≡ slice_set (as_words n ws) i (v % 2 ^ 32)

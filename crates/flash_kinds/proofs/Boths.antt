@@ -25,12 +25,12 @@ module _ (f : ℕ → ℕ → ℕ) where
   both_filled (suc n) k x y (a ∷ xs) [] = refl
   both_filled (suc n) k x y (a ∷ xs) (b ∷ ys) = ap (λ zs. f a b ∷ zs) (both_filled n k x y xs ys)
 
-  pub getD_both : (xs ys : List ℕ) (i : ℕ) → i < length xs → i < length ys →
+  pub get_or_both : (xs ys : List ℕ) (i : ℕ) → i < length xs → i < length ys →
       get_or (both f xs ys) i 0 ≡ f (get_or xs i 0) (get_or ys i 0)
-  getD_both [] ys i h k = absurd (omega arith)
-  getD_both (x ∷ xs) [] i h k = absurd (omega arith)
-  getD_both (x ∷ xs) (y ∷ ys) zero h k = refl
-  getD_both (x ∷ xs) (y ∷ ys) (suc i) h k = getD_both xs ys i (omega arith) (omega arith)
+  get_or_both [] ys i h k = absurd (omega arith)
+  get_or_both (x ∷ xs) [] i h k = absurd (omega arith)
+  get_or_both (x ∷ xs) (y ∷ ys) zero h k = refl
+  get_or_both (x ∷ xs) (y ∷ ys) (suc i) h k = get_or_both xs ys i (omega arith) (omega arith)
 
 -- the smaller of the erases left of a page of the first n, of two tables that have it
 pub least_within : (n : ℕ) (ls hs : List PageRecord) (p : ℕ) → p < n → p < length ls → p < length hs →
@@ -40,7 +40,7 @@ least_within n ls hs p h l k =
     let has_low : p < length (map left_of ls) = simp length-map l in
     let has_high : p < length (map left_of hs) = simp length-map k in
     get_or-take n (both min (map left_of ls) (map left_of hs)) p 0 h
-    ∙ getD_both min (map left_of ls) (map left_of hs) p has_low has_high ∙ (λ j. min (left_at ls p j) (left_at hs p j))
+    ∙ get_or_both min (map left_of ls) (map left_of hs) p has_low has_high ∙ (λ j. min (left_at ls p j) (left_at hs p j))
 
 -- the smaller of the erases left falls by one where each table counts one more erase
 pub least_less : (ls ls' hs hs' : List PageRecord) (p : ℕ) → p < length ls → p < length hs →
@@ -55,4 +55,4 @@ least_less ls ls' hs hs' p l k el eh =
     let less : min (get_or xs p 0 - 1) (get_or ys p 0 - 1) ≡ min (get_or xs p 0) (get_or ys p 0) - 1 = omega arith in
     (λ j. both min (lefts_once_more ls ls' p el j) (lefts_once_more hs hs' p eh j))
     ∙ both_set min xs ys p _ _
-    ∙ ap (λ n. set (both min xs ys) p n) (less ∙ ap (λ n. n - 1) (sym (getD_both min xs ys p has_low has_high)))
+    ∙ ap (λ n. set (both min xs ys) p n) (less ∙ ap (λ n. n - 1) (sym (get_or_both min xs ys p has_low has_high)))

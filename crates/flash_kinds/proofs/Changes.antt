@@ -3,7 +3,7 @@ use Rattle.std.proofs.Common.{◌≡◌, ℕ, zero, suc, ◌+◌, ◌-◌, ◌*�
 use Rattle.std.proofs.lemmas.List.{get_or-take, map-set, drop-set-lt}
 use Rattle.flash_kinds.specs.declared.record.PageRecord.{PageRecord}
 use Rattle.flash.specs.Lists.{overwritten, as_words}
-use Rattle.flash.specs.Words.{getD_as_words, as_words_set, as_words_overwritten}
+use Rattle.flash.specs.Words.{get_or_as_words, as_words_set, as_words_overwritten}
 use Rattle.flash.specs.Meaning.{Meaning, blank, blank_page, page_written}
 use Rattle.flash.specs.Effects.{written, program_word, erase_page}
 use Rattle.flash_kinds.specs.Tables.{tables_meaning, left_of, once_more, no_record, outside_of}
@@ -12,7 +12,7 @@ use Rattle.flash.proofs.Overwrites.{drop_overwritten}
 -- a word of 32 bits as it was read
 pub read_as_word : (n : ℕ) (ws : List ℕ) (i r : ℕ) → i < n → r < 2 ^ 32 → r ≡ get_or ws i 0 →
     r ≡ get_or (as_words n ws) i 0
-read_as_word n ws i r h f e = sym (getD_as_words n ws i h ∙ ap (λ x. x % 2 ^ 32) (sym e) ∙ mod-eq_of_lt f)
+read_as_word n ws i r h f e = sym (get_or_as_words n ws i h ∙ ap (λ x. x % 2 ^ 32) (sym e) ∙ mod-eq_of_lt f)
 
 take_set_any : (n : ℕ) (xs : List ℕ) (i v : ℕ) → take n (set xs i v) ≡ set (take n xs) i v
 take_set_any zero xs i v = refl

@@ -1,4 +1,5 @@
 mod Lists
 mod Obeying
+mod OptionWords
 mod Refused
 mod Tickets

@@ -1,6 +1,7 @@
 -- The part that a loader with its ticket is, and what its answers say.
 use Rattle.std.specs.Prelude.{ℕ, List, length}
 use Rattle.flash.specs.Meaning.{Meaning}
+use Rattle.flash.specs.declared.interface.Flash.{Ghosts}
 use Rattle.part.specs.Events.{Said, nothing, small_buffer, silent, accepted, resting, ongoing, bytes, bytes_and_ticket, fault}
 use Rattle.part.specs.Parts.{Part}
 use Rattle.loader.specs.declared.answers.Answer.{Answer}
@@ -8,8 +9,8 @@ use Rattle.loader.specs.declared.answers.Answer.TheVariants.{SmallBuffer, Idle, 
 use Rattle.loader.specs.declared.running.Running.{Running}
 use Rattle.loader.specs.Loaders.{part_of}
 
-module _ {F : Type 0} (meaning : F → Meaning) where
-  abbrev pub part_running : Running F → Part
+module _ {F : Type 0} {g : Ghosts F} (meaning : F → Meaning) where
+  abbrev pub part_running : Running F g → Part
   part_running r = part_of meaning r.loader
 
 -- what the definitions say of a work call, as the enum that it is answered with; the cases that none has are given as idle

@@ -17,7 +17,7 @@ has_data f = nat_lt 0 (length_field f) && nat_le (length_field f) command_most
 -- the numbers of a task, added up, pass no limit of 32 bits, no more is done of it than there is, and a Write has 1 to 128 words
 abbrev pub bounded : Task → Bool
 bounded (Writing first words done) = nat_lt (first + 256) (2 ^ 32) && (nat_le 1 words && nat_le words 128)
-bounded (Setting first words) = nat_le 1 words && nat_le words 128
+bounded (Setting first words) = nat_le 1 words && nat_le (first + words) 4
 bounded (Checking first count value done register) = nat_le done count && nat_lt (first + count) (2 ^ 32)
 bounded (Erasing first count done) = nat_lt (first + count) (2 ^ 32)
 bounded Protecting = true
