@@ -13,7 +13,7 @@ use Rattle.twin_parts.proofs.twins.locked_twins.Goals as goal
 alike_for_good : (p q : Part) → LockedTwins p q → AlikeForGood p q
 alike_for_good p q t i j m n s r own other e f es fs one =
     ap (λ (x : Part). answers x es) e
-    ∙ locked_twins_answer_alike i m s j n r own other (sym (ap (λ (x : Part). x.level) e) ∙ t.left)
+    ∙ locked_twins_answer_alike i j m n s r own other (sym (ap (λ (x : Part). x.level) e) ∙ t.left)
     (sym (ap outward e) ∙ t.agree ∙ ap outward f) es fs (subst (λ (x : Part). OneList x es fs) e one)
     ∙ sym (ap (λ (x : Part). answers x fs) f)
 
