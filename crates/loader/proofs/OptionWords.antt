@@ -20,7 +20,7 @@ replaced_within (suc n) ws (x ∷ xs) h = rw suc-add (ap (λ ys. x ∷ ys) (repl
 -- the words of a Write to the option words that keeps to them
 pub set_within : (first words : ℕ) (store options : List ℕ) (task : Task) → task ≡ Setting first words → bounded task ≡ true → length options ≡ 4
     → options_replaced first (words_from (stored_bytes store words)) options ≡ options_with first (words_from (stored_bytes store words)) options
-set_within first words store options task e b four = 
+set_within first words store options task e b four =
     let fits = subst (λ t. bounded t ≡ true) e b in
     let count = length_words (stored_bytes store words) in
     let few = length-take (4 * min (max words 1) 128) (drop 8 store) in
