@@ -1,5 +1,5 @@
 -- The address map: user flash and the option words. Addresses and counts are numbers that never wrap.
-use Rattle.std.specs.Prelude.{ℕ, ◌+◌, ◌-◌, ◌*◌, ◌/◌, Bool, true, false, cond, ◌&&◌, ◌||◌, nat_le}
+use Rattle.std.specs.Prelude.{ℕ, ◌+◌, ◌-◌, ◌*◌, ◌/◌, Bool, cond, ◌&&◌, ◌||◌, nat_le}
 use Rattle.areas.specs.declared.map.Area.{Area}
 use Rattle.areas.specs.declared.map.Area.TheVariants.{User, Options, Outside}
 

@@ -1,5 +1,5 @@
 -- What a line asks a bench for is read back from its text, and is all that is read.
-use Rattle.std.proofs.Common.{◌≡◌, ℕ, ◌<◌, ◌≤◌, cond, ◌&&◌, leb, List, [], ◌∷◌, map, length, Some, None, Option, refl, ap, ◌∙◌, subst, ap₂, arith}
+use Rattle.std.proofs.Common.{◌≡◌, ℕ, ◌≤◌, ◌&&◌, leb, List, [], ◌∷◌, length, Some, None, Option, refl, ap, ◌∙◌, subst, ap₂, arith}
 use Rattle.std.proofs.lemmas.Bool.{cond_both, cond-true, and_parts, and_from, leb-true, le-leb}
 use Rattle.std.specs.List.{AllByRecursion as All}
 use Rattle.text.proofs.Asking.{among_only, bytes_back, bytes_only, given_back, taken_only, ended_only, line_reads as spelled_reads}

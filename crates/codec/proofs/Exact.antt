@@ -1,5 +1,5 @@
 -- The writer writes exactly the frames that pass.
-use Rattle.std.proofs.Common.{◌≡◌, ℕ, ◌≤◌, Bool, true, false, List, length, get_or, Some, None, Ok, Err, Option, Result, sym, refl, ap, ◌∙◌, subst, ap₂, arith}
+use Rattle.std.proofs.Common.{◌≡◌, ℕ, ◌≤◌, Bool, true, false, List, length, Some, None, Ok, Err, Option, Result, sym, refl, ap, ◌∙◌, subst, ap₂, arith}
 use Rattle.std.proofs.lemmas.Bool.Decides.{nat_tests}
 use Rattle.commands.specs.declared.codes.Code.{Code}
 use Rattle.commands.specs.declared.codes.Code.TheVariants.{WrongLength, NotAligned, WrongParameter}
@@ -15,7 +15,7 @@ use Rattle.frame.proofs.Frames.{opened_framed, framed_back, opened_opens}
 use Rattle.frame.proofs.Judged.{passes}
 use Rattle.frame.proofs.Puts.{length_framed}
 use Rattle.frame.proofs.Readback.{read_back, write_back, kind_back, kind_of_byte, byte_of_kind, data_bytes, data_fitting, length_limit, bytes_part}
-use Rattle.codec.specs.Writing.{frame_for, unstopped, written, passing, WrittenFramesPass, PassingFramesAreWritten, FramesFitTheBuffer}
+use Rattle.codec.specs.Writing.{frame_for, written, passing, WrittenFramesPass, PassingFramesAreWritten, FramesFitTheBuffer}
 
 -- three places that let something through
 record Through {X : Type 0} (a b c : Bool) (x y : X) : Type 0 where

@@ -1,5 +1,5 @@
 -- What the writer's tests tell of the frame.
-use Rattle.std.proofs.Common.{◌≡◌, ℕ, Bool, true, false, length, Ok, Err, Result, sym, refl, ap, ◌∙◌, arith}
+use Rattle.std.proofs.Common.{◌≡◌, ℕ, Bool, true, false, length, Ok, Err, Result, arith}
 use Rattle.commands.specs.declared.codes.Code.{Code}
 use Rattle.commands.specs.declared.codes.Refusal.{Refusal}
 use Rattle.commands.specs.declared.codes.Code.TheVariants.{WrongLength, NotAligned, WrongParameter}

@@ -1,5 +1,5 @@
 -- The host's writer: which frame a request becomes, and which requests are refused.
-use Rattle.std.specs.Prelude.{◌≡◌, ℕ, ◌≤◌, Bool, false, cond, List, length, Some, None, Ok, Err, Option, Result, nat_lt}
+use Rattle.std.specs.Prelude.{◌≡◌, ℕ, ◌≤◌, Bool, false, cond, List, length, Ok, Err, Result, nat_lt}
 use Rattle.commands.specs.declared.codes.Code.{Code}
 use Rattle.commands.specs.declared.codes.Code.TheVariants.{WrongLength}
 use Rattle.commands.specs.declared.codes.Local.TheVariants.{SmallBuffer}

@@ -1,13 +1,12 @@
 -- The proofs of the laws.
-use Rattle.std.proofs.Common.{◌≡◌, ℕ, zero, suc, ◌+◌, ◌-◌, ◌*◌, ◌%◌, ◌^◌, ◌<◌, ◌≤◌, Bool, true, false, cond, ◌≢◌, List, [], ◌∷◌, length, get_or, set, replicate, Ok, Err, Result, sym, refl, ap, ◌∙◌, mod-lt, arith, lit<}
-use Rattle.std.proofs.lemmas.List.{get_or-set_same, get_or-set_other, set_past, length-set, get_or-replicate}
+use Rattle.std.proofs.Common.{◌≡◌, ℕ, zero, suc, ◌+◌, ◌*◌, ◌%◌, ◌^◌, ◌<◌, ◌≤◌, Bool, true, false, List, [], ◌∷◌, length, get_or, set, Ok, sym, refl, ap, ◌∙◌, mod-lt, arith, lit<}
+use Rattle.std.proofs.lemmas.List.{get_or-set_same, get_or-set_other, length-set, get_or-replicate}
 use Rattle.std.proofs.lemmas.Bool.Decides.{nat_tests}
-use Rattle.flash.specs.declared.fault.FlashFault.{FlashFault}
 use Rattle.flash.specs.Lists.{overwritten, as_words}
 use Rattle.flash.specs.Words.{length_as_words, as_words_fit, get_or_as_words}
 use Rattle.flash.specs.Meaning.{Meaning, Sound, blank, blank_page, page_written, with_word, with_page, with_erase_taken, with_options, with_option_write_taken}
 use Rattle.flash.specs.Effects.{Write, no_write, program_word, erase_page, set_options, written, word_answer, option_word_answer, program_answer, program_leaves, erase_answer, erase_leaves, options_answer, options_leaves}
-use Rattle.flash.specs.Cuts.{Way, old, new, junk, cut_written, junk_written}
+use Rattle.flash.specs.Cuts.{old, new, junk, cut_written}
 use Rattle.flash.specs.Laws.{AltersOnly, CutsAlterOnlyTheirWrite, CutsKeepLimits, RefusalsWriteNothing, WritesAreReadBack}
 use Rattle.flash.proofs.Overwrites.{length_overwritten, get_or_overwritten_in, get_or_overwritten_out}
 

@@ -1,6 +1,5 @@
 -- The refusals of a flash. No other definition makes one.
 use Rattle.std.specs.Prelude.{ℕ}
-use Rattle.flash.specs.declared.fault.Cause.{Cause}
 use Rattle.flash.specs.declared.fault.Asked.TheVariants.{Page, Word, OptionWord, OptionWrite}
 use Rattle.flash.specs.declared.fault.Cause.TheVariants.{Range, NotErased, Worn}
 use Rattle.flash.specs.declared.fault.FlashFault.{FlashFault}

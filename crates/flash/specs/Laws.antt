@@ -1,5 +1,5 @@
 -- Laws of the meaning, its effects and its power cuts, which every flash keeps since it keeps the interface.
-use Rattle.std.specs.Prelude.{◌≡◌, ℕ, ◌+◌, ◌*◌, ◌%◌, ◌^◌, ◌<◌, ◌≤◌, Bool, List, Ok, Err, Result, slice_index}
+use Rattle.std.specs.Prelude.{◌≡◌, ℕ, ◌+◌, ◌*◌, ◌%◌, ◌^◌, ◌<◌, ◌≤◌, Bool, List, Ok, Err, slice_index}
 use Rattle.flash.specs.declared.fault.FlashFault.{FlashFault}
 use Rattle.flash.specs.Meaning.{Meaning, Sound, blank}
 use Rattle.flash.specs.Effects.{Write, no_write, program_word, erase_page, set_options, word_answer, option_word_answer, program_answer, program_leaves, program_write, erase_answer, erase_leaves, erase_write, options_answer, options_leaves, options_write}

@@ -1,8 +1,7 @@
 -- Worked power cuts, as one computed list.
 use Rattle.std.specs.Prelude.{◌≡◌, ℕ, Bool, true, false, ◌&&◌, List, [], ◌∷◌, replicate, ◌==◌, slice_index}
-use Rattle.flash_kinds.specs.declared.record.PageRecord.{PageRecord}
 use Rattle.flash.specs.Meaning.{Meaning, blank}
-use Rattle.flash.specs.Effects.{Write, program_write, erase_write, erase_leaves, options_write}
+use Rattle.flash.specs.Effects.{program_write, erase_write, erase_leaves, options_write}
 use Rattle.flash.specs.Cuts.{Way, old, new, junk, cut_written}
 use Rattle.flash_kinds.specs.Word.{word_meaning_from}
 

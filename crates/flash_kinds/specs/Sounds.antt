@@ -1,5 +1,5 @@
 -- The pages of lent tables, and the limits that their meaning keeps.
-use Rattle.std.specs.Prelude.{◌≡◌, ℕ, ◌*◌, ◌%◌, ◌≤◌, min, List, map, length}
+use Rattle.std.specs.Prelude.{◌≡◌, ℕ, ◌%◌, ◌≤◌, min, List, map, length}
 use Rattle.std.proofs.Common.{arith}
 use Rattle.std.proofs.lemmas.List.{length-take, length-map}
 use Rattle.flash_kinds.specs.declared.pair_flash.PairFlash.{PairFlash}

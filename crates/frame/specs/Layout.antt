@@ -1,6 +1,6 @@
 -- The layout of a frame: a head, a tag (command or code), the length of the data in two bytes, the data, and the data's
 -- checksum in two bytes. A frame with no data has no checksum.
-use Rattle.std.specs.Prelude.{ℕ, ◌+◌, Bool, true, false, cond, List, [], ◌∷◌, ◌++◌, length, take, drop, Some, None, Ok, Err, Option, Result, ◌==◌, nat_le, nat_lt, slice_index}
+use Rattle.std.specs.Prelude.{ℕ, ◌+◌, Bool, true, cond, List, [], ◌∷◌, ◌++◌, length, take, drop, Some, None, Ok, Err, Option, Result, ◌==◌, nat_le, nat_lt, slice_index}
 use Rattle.checksum.specs.Crc.{crc}
 use Rattle.frame.specs.declared.layout.Flaw.{Flaw}
 use Rattle.frame.specs.declared.layout.Flaw.TheVariants.{WrongHead, WrongTotal, TooLong, Damaged}

@@ -1,5 +1,5 @@
 -- Where a frame is stopped: the first place that applies answers.
-use Rattle.std.specs.Prelude.{◌≡◌, ℕ, ◌+◌, ◌≤◌, Bool, true, false, cond, List, length, take, drop, Some, None, Ok, Err, Option, Result}
+use Rattle.std.specs.Prelude.{◌≡◌, ℕ, Bool, false, cond, List, length, take, drop, Some, None, Ok, Err, Option, Result}
 use Rattle.commands.specs.declared.codes.Code.{Code}
 use Rattle.commands.specs.declared.codes.Code.TheVariants.{NotAllowed, WrongLength, NotAligned, OutOfRange, WrongParameter, UnknownCommand}
 use Rattle.commands.specs.declared.codes.Refusal.{Refusal}

@@ -5,7 +5,7 @@ use Rattle.flash.specs.Meaning.{Meaning}
 use Rattle.frame.specs.Places.{judged}
 use Rattle.part.specs.Events.{after_byte, byte_said, byte_says, byte_leaves, least_buffer, small_buffer, silent, hears, busy, in_hand}
 use Rattle.part.specs.Receiving.{Heard, Reply, between, heard, answered, taking}
-use Rattle.part.specs.Parts.{Part, none}
+use Rattle.part.specs.Parts.{none}
 use Rattle.receiver.specs.declared.receiver.Receiver.{Receiver}
 use Rattle.receiver.specs.declared.state.Order.{Order}
 use Rattle.receiver.specs.declared.state.State.{State}

@@ -1,7 +1,6 @@
 -- The part that a loader is, and what its answers say.
-use Rattle.std.specs.Prelude.{ℕ, Bool, false, List, [], length, Option}
+use Rattle.std.specs.Prelude.{ℕ, false, List, [], length}
 use Rattle.flash.specs.Meaning.{Meaning}
-use Rattle.part.specs.declared.report.CommandFault.{CommandFault}
 use Rattle.part.specs.Events.{Said, nothing, small_buffer, silent, accepted, resting, ongoing, bytes, bytes_and_ticket, fault}
 use Rattle.part.specs.Parts.{Part}
 use Rattle.part.specs.Receiving.{Heard, answered}

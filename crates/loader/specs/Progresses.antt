@@ -1,5 +1,5 @@
 -- How a portion of the code ended, in the words of the part.
-use Rattle.std.specs.Prelude.{ℕ, Bool, true, false, List, Ok, Err, Result}
+use Rattle.std.specs.Prelude.{ℕ, Bool, true, List, Ok, Err, Result}
 use Rattle.memory.specs.declared.fault.MemoryFault.{MemoryFault}
 use Rattle.memory.specs.Reports.{in_memory}
 use Rattle.part.specs.Parts.{Hand, none}

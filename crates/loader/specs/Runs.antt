@@ -1,5 +1,5 @@
 -- The part that a loader with its ticket is, and what its answers say.
-use Rattle.std.specs.Prelude.{ℕ, List, length}
+use Rattle.std.specs.Prelude.{length}
 use Rattle.flash.specs.Meaning.{Meaning}
 use Rattle.flash.specs.declared.interface.Flash.{Ghosts}
 use Rattle.part.specs.Events.{Said, nothing, small_buffer, silent, accepted, resting, ongoing, bytes, bytes_and_ticket, fault}

@@ -1,5 +1,5 @@
 -- The four option words, and words written over them.
-use Rattle.std.proofs.Common.{◌≡◌, ℕ, zero, suc, ◌+◌, ◌<◌, ◌≤◌, List, [], ◌∷◌, length, get_or, take, set, sym, refl, ◌∙◌, arith}
+use Rattle.std.proofs.Common.{◌≡◌, ℕ, ◌+◌, ◌<◌, ◌≤◌, List, [], ◌∷◌, length, get_or, take, set, sym, refl, ◌∙◌, arith}
 use Rattle.std.proofs.lemmas.List.{take_more, length-take-le, set_past}
 use Rattle.flash.specs.Lists.{overwritten}
 use Rattle.flash.proofs.Overwrites.{overwritten_push}

@@ -1,5 +1,5 @@
 -- A word of an area that is there, and one that is not.
-use Rattle.std.proofs.Common.{◌≡◌, ℕ, ◌<◌, ◌≤◌, length, get_or, Some, None, Option, arith}
+use Rattle.std.proofs.Common.{◌≡◌, ℕ, ◌<◌, ◌≤◌, length, get_or, Some, None, arith}
 use Rattle.std.proofs.lemmas.Bool.Decides.{nat_tests}
 use Rattle.areas.specs.declared.map.Area.{Area}
 use Rattle.flash.specs.Meaning.{Meaning}

@@ -1,5 +1,5 @@
 -- What one portion of a memory's work answers and leaves, over any flash.
-use Rattle.std.specs.Prelude.{ℕ, ◌*◌, ◌/◌, min, cond, List, [], length, take, drop, Some, None, Ok, Err, Option, Result, nat_lt, slice_index}
+use Rattle.std.specs.Prelude.{ℕ, cond, List, [], length, take, drop, Some, None, Ok, Err, Option, Result, nat_lt, slice_index}
 use Rattle.areas.specs.declared.map.Area.{Area}
 use Rattle.areas.specs.declared.map.Area.TheVariants.{User, Options, Outside}
 use Rattle.flash.specs.declared.fault.FlashFault.{FlashFault}

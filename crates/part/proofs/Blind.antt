@@ -1,12 +1,12 @@
 -- A locked part does what it does, and says what it says, whatever its user words are.
-use Rattle.std.proofs.Common.{◌≡◌, ℕ, Bool, true, false, cond, eqb, ltb, List, [], ◌∷◌, ◌++◌, length, get_or, Some, None, Ok, Err, Option, Result, sym, refl, ap, ◌∙◌, subst, ap₂}
+use Rattle.std.proofs.Common.{◌≡◌, ℕ, Bool, true, false, cond, eqb, ltb, List, [], ◌∷◌, ◌++◌, length, get_or, Some, None, Ok, Err, Option, Result, sym, refl, ap, ◌∙◌, subst}
 use Rattle.commands.specs.declared.codes.Code.TheVariants.{NotAllowed, WrongLength, WrongParameter, UnknownCommand}
 use Rattle.commands.specs.declared.codes.Refusal.{Refusal}
 use Rattle.commands.specs.declared.codes.Refusal.TheVariants.{Local, Code as Answer}
 use Rattle.commands.specs.declared.kinds.Kind.{Kind}
 use Rattle.commands.specs.declared.kinds.Kind.TheVariants.{Get, Read, Write as WriteKind, MemoryCrc, Erase, Protect, Unprotect}
 use Rattle.commands.specs.declared.kinds.Level.{Level}
-use Rattle.commands.specs.declared.kinds.Level.TheVariants.{Open, Locked}
+use Rattle.commands.specs.declared.kinds.Level.TheVariants.{Locked}
 use Rattle.frame.specs.declared.layout.Flaw.{Flaw}
 use Rattle.frame.specs.Flaws.{stopped_by}
 use Rattle.commands.specs.Kinds.{kind_of, forbidden}
@@ -17,7 +17,7 @@ use Rattle.flash.specs.Cuts.{Way, old, new, junk, cut_written}
 use Rattle.flash.specs.Effects.{Write, no_write, program_word, erase_page, set_options, written}
 use Rattle.flash.specs.Meaning.{Meaning, without_words}
 use Rattle.part.specs.declared.identity.Identity.{Identity}
-use Rattle.part.specs.Events.{Event, byte, work, ask_fault, reset, cut, cut_work, Said, step, says, byte_leaves, byte_says, byte_said, after_byte, hears, busy, work_leaves, work_says, work_said, work_writes, after_portion, next_portion, cut_work_leaves, least_buffer, small_buffer, silent, in_hand}
+use Rattle.part.specs.Events.{Event, byte, work, ask_fault, reset, cut, cut_work, step, says, byte_said, after_byte, hears, busy, work_said, work_writes, after_portion, next_portion, least_buffer, small_buffer, silent}
 use Rattle.part.specs.Laws.{without_junk, without_junk_way}
 use Rattle.part.specs.Parts.{Part, Wire, Hand, none, unprotecting, doing, started, outward}
 use Rattle.part.specs.Receiving.{Heard, heard, connected_byte, unconnected_byte, framing, answered, served, waiting, answering, code_answer}

@@ -1,25 +1,24 @@
 -- What holds of a part along every run: the flash keeps its limits, a locked part has nothing in hand but an Unprotect whose
 -- pages are erased so far, and one whose option words already say open has every page erased and its ticket out.
-use Rattle.std.proofs.Common.{◌≡◌, ℕ, ◌+◌, ◌-◌, ◌*◌, ◌<◌, ◌≤◌, Bool, true, false, cond, ◌||◌, eqb, ltb, List, [], ◌∷◌, ◌++◌, get_or, Ok, Err, Result, sym, refl, ap, ◌∙◌, subst, ⊎_elim, arith}
+use Rattle.std.proofs.Common.{◌≡◌, ℕ, ◌+◌, ◌-◌, ◌*◌, ◌<◌, ◌≤◌, Bool, true, false, cond, ◌||◌, ltb, List, [], ◌∷◌, ◌++◌, get_or, Ok, Err, Result, sym, refl, ap, ◌∙◌, subst, ⊎_elim, arith}
 use Rattle.std.proofs.lemmas.List.{append-nil, append_assoc}
-use Rattle.std.proofs.lemmas.Bool.{ltb-true, ltb-false, cases_lt, cond_both}
+use Rattle.std.proofs.lemmas.Bool.{ltb-false, cases_lt, cond_both}
 use Rattle.std.proofs.lemmas.Bool.Decides.{nat_tests}
 use Rattle.commands.specs.declared.kinds.Level.{Level}
 use Rattle.commands.specs.declared.kinds.Level.TheVariants.{Open, Locked}
 use Rattle.flash.specs.declared.fault.FlashFault.{FlashFault}
 use Rattle.flash.specs.Cuts.{Way, old, new, junk, cut_written}
-use Rattle.flash.specs.Effects.{Write, no_write, program_word, erase_page, set_options, written, erase_answer, erase_write, erase_leaves, options_answer, word_answer}
-use Rattle.flash.specs.Laws.{AltersOnly}
+use Rattle.flash.specs.Effects.{Write, no_write, erase_page, set_options, written, erase_answer, erase_write, options_answer, word_answer}
 use Rattle.flash.specs.Meaning.{Meaning, Sound, blank}
 use Rattle.flash.proofs.Lawful.{cuts_keep_limits, cuts_alter_only_their_write, writes_are_read_back}
 use Rattle.part.specs.declared.identity.Identity.{Identity}
-use Rattle.part.specs.Events.{Event, byte, work, ask_fault, reset, cut, cut_work, step, run, byte_leaves, after_byte, hears, busy, in_hand, work_leaves, work_writes, after_portion, next_portion, ticket_after, cut_work_leaves, least_buffer, Happening, happened, history, taking_happened, write_happened}
+use Rattle.part.specs.Events.{Event, byte, work, ask_fault, reset, cut, cut_work, step, run, after_byte, hears, busy, in_hand, work_writes, after_portion, next_portion, ticket_after, least_buffer, Happening, happened, history, taking_happened, write_happened}
 use Rattle.part.specs.Laws.{ErasedSinceUnprotect, AllBlank}
 use Rattle.part.specs.Levels.{level_of}
 use Rattle.part.specs.Parts.{Part, Hand, none, unprotecting, doing, started, restarted}
 use Rattle.part.specs.Receiving.{Heard}
-use Rattle.part.specs.Working.{Portion, Outcome, going, done_ticket, portion, written_as, unprotect_portion, options_portion}
-use Rattle.part.proofs.Blind.{Fresh, Lockable, hears_fresh}
+use Rattle.part.specs.Working.{Portion, going, done_ticket, portion, written_as}
+use Rattle.part.proofs.Blind.{Fresh, hears_fresh}
 use Rattle.part.proofs.Histories.{taken_now, erased_next, fewer, unchanged}
 
 -- ---- words

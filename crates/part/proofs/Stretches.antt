@@ -1,18 +1,17 @@
 -- A Memory CRC's register is that of the words done so far, so that its end compares the whole stretch.
-use Rattle.std.proofs.Common.{◌≡◌, ℕ, ◌+◌, ◌-◌, ◌<◌, ◌≤◌, min, Bool, true, false, cond, eqb, ltb, leb, List, [], ◌∷◌, ◌++◌, length, take, drop, Ok, Err, Result, sym, refl, ap, ◌∙◌, subst, arith}
+use Rattle.std.proofs.Common.{◌≡◌, ℕ, ◌+◌, ◌-◌, ◌<◌, ◌≤◌, min, Bool, true, false, cond, eqb, ltb, leb, List, [], ◌∷◌, ◌++◌, take, drop, Ok, Err, Result, sym, refl, ap, ◌∙◌, subst, arith}
 use lib.Bits.{bit_xor}
-use Rattle.std.proofs.lemmas.List.{append_assoc, take-append-drop, take-take, drop-take, drop-drop}
+use Rattle.std.proofs.lemmas.List.{take-append-drop, take-take, drop-take, drop-drop}
 use Rattle.std.proofs.lemmas.Bool.{cond_both, cond-true, cond-false, leb-false, le-leb, le-ltb}
 use Rattle.checksum.specs.Crc.{feeds, crc}
 use Rattle.checksum.proofs.Laws.{joins}
 use Rattle.areas.specs.declared.map.Area.{Area}
 use Rattle.areas.specs.declared.map.Area.TheVariants.{User, Options, Outside}
-use Rattle.commands.specs.declared.codes.Code.TheVariants.{Done, WrongLength, WrongParameter}
+use Rattle.commands.specs.declared.codes.Code.TheVariants.{Done, WrongParameter}
 use Rattle.commands.specs.declared.codes.Refusal.{Refusal}
 use Rattle.commands.specs.declared.codes.Refusal.TheVariants.{Local, Code as Answer}
 use Rattle.commands.specs.declared.kinds.Level.{Level}
 use Rattle.areas.specs.Areas.{place_of}
-use Rattle.frame.specs.Layout.{total, length_field, command_most}
 use Rattle.frame.specs.Places.{judged}
 use Rattle.commands.specs.Requests.{Request, get, read, write, memory_crc, erase, protect, unprotect}
 use Rattle.areas.specs.Words.{bytes_of_words}
@@ -21,12 +20,12 @@ use Rattle.flash.specs.declared.fault.FlashFault.{FlashFault}
 use Rattle.flash.specs.Effects.{Write, written, program_answer, erase_answer, options_answer}
 use Rattle.flash.specs.Meaning.{Meaning}
 use Rattle.part.specs.declared.identity.Identity.{Identity}
-use Rattle.part.specs.Events.{Event, byte, work, ask_fault, reset, cut, cut_work, bytes, step, run, hears, busy, after_byte, after_portion, next_portion, work_said, work_says, least_buffer}
+use Rattle.part.specs.Events.{Event, byte, work, ask_fault, reset, cut, cut_work, bytes, step, run, hears, busy, after_byte, after_portion, next_portion, work_said, least_buffer}
 use Rattle.part.specs.Laws.{ChecksAnswerForTheStretch}
 use Rattle.part.proofs.Blind.{heard_takes}
 use Rattle.part.specs.Parts.{Part, Wire, Task, writing, setting, checking, erasing, protecting, Hand, none, unprotecting, doing, started, restarted}
-use Rattle.part.specs.Receiving.{Heard, heard, connected_byte, framing, answered, served, write_task, erase_task, code_answer}
-use Rattle.part.specs.Working.{Portion, Outcome, idle, going, done, done_ticket, differs, portion, written_as, task_portion, check_words, check_register, check_portion, unprotect_portion, erase_portion}
+use Rattle.part.specs.Receiving.{Heard, heard, answered, served, write_task, code_answer}
+use Rattle.part.specs.Working.{Portion, Outcome, going, done, done_ticket, differs, portion, written_as, task_portion, check_register, check_portion}
 
 -- the words of a stretch that are done
 abbrev stretch : Meaning → ℕ → ℕ → List ℕ

@@ -1,11 +1,10 @@
 -- The laws over whole runs.
-use Rattle.std.proofs.Common.{◌≡◌, ℕ, ◌*◌, ◌<◌, Bool, true, false, List, [], ◌∷◌, ◌++◌, length, get_or, sym, refl, ap, ◌∙◌, subst, ap₂, arith}
+use Rattle.std.proofs.Common.{◌≡◌, ℕ, ◌*◌, ◌<◌, List, [], ◌∷◌, ◌++◌, sym, refl, ap, ◌∙◌, subst, ap₂, arith}
 use Rattle.std.proofs.lemmas.List.{append-nil, append_assoc, ext_get_or}
 use Rattle.commands.specs.declared.kinds.Level.{Level}
 use Rattle.commands.specs.declared.kinds.Level.TheVariants.{Open, Locked}
-use Rattle.flash.specs.Meaning.{Meaning, Sound, blank}
-use Rattle.part.specs.declared.identity.Identity.{Identity}
-use Rattle.part.specs.Events.{Event, Row, step, says, run, answers, Happening, happened, history}
+use Rattle.flash.specs.Meaning.{Meaning, Sound}
+use Rattle.part.specs.Events.{Event, step, says, run, answers, Happening, happened, history}
 use Rattle.part.specs.Laws.{without_junk, OneEvent, OneList, LockedTwinsAnswerAlike, OpensOnlyErased, AllBlank}
 use Rattle.part.specs.Parts.{Part, Hand, none, unprotecting, doing, started, outward}
 use Rattle.part.proofs.Blind.{Lockable, step_blind, says_blind}

@@ -1,9 +1,8 @@
 -- Events, and what a part does and answers over a list of them.
-use Rattle.std.specs.Prelude.{ℕ, ◌*◌, ◌<◌, Bool, true, false, cond, ◌||◌, List, [], ◌∷◌, ◌++◌, Option, nat_lt}
+use Rattle.std.specs.Prelude.{ℕ, Bool, true, false, cond, ◌||◌, List, [], ◌∷◌, ◌++◌, Option, nat_lt}
 use Rattle.commands.specs.declared.codes.Code.TheVariants.{Done, FlashRefused, WrongParameter}
 use Rattle.flash.specs.Cuts.{Way, cut_written}
 use Rattle.flash.specs.Effects.{Write, no_write, program_word, erase_page, set_options, written}
-use Rattle.flash.specs.Meaning.{Meaning}
 use Rattle.part.specs.declared.report.CommandFault.{CommandFault}
 use Rattle.part.specs.Parts.{Part, Hand, none, unprotecting, doing, started, restarted}
 use Rattle.part.specs.Receiving.{Heard, Reply, quiet, taken_up, replied, heard, code_answer}

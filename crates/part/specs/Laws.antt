@@ -1,5 +1,5 @@
 -- The laws over whole runs.
-use Rattle.std.specs.Prelude.{◌≡◌, ℕ, ◌+◌, ◌*◌, ◌<◌, ◌≤◌, Bool, true, false, cond, ◌⊎◌, List, [], ◌∷◌, ◌++◌, take, drop, ◌==◌, slice_index}
+use Rattle.std.specs.Prelude.{◌≡◌, ℕ, ◌+◌, ◌*◌, ◌<◌, ◌≤◌, cond, ◌⊎◌, List, [], ◌∷◌, ◌++◌, take, drop, ◌==◌, slice_index}
 use Rattle.checksum.specs.Crc.{crc}
 use Rattle.commands.specs.declared.codes.Code.TheVariants.{Done, WrongParameter}
 use Rattle.commands.specs.declared.kinds.Level.{Level}
@@ -8,8 +8,8 @@ use Rattle.areas.specs.Words.{bytes_of_words}
 use Rattle.flash.specs.Cuts.{Way, old, new, junk}
 use Rattle.flash.specs.Meaning.{Meaning, Sound, blank}
 use Rattle.part.specs.declared.identity.Identity.{Identity}
-use Rattle.part.specs.Events.{Event, byte, work, ask_fault, reset, cut, cut_work, Said, bytes, step, run, answers, Happening, unprotect_taken, page_erased, history, work_says, least_buffer}
-use Rattle.part.specs.Parts.{Part, Hand, doing, checking, started, outward}
+use Rattle.part.specs.Events.{Event, byte, work, ask_fault, reset, cut, cut_work, bytes, step, run, answers, Happening, unprotect_taken, page_erased, history, work_says, least_buffer}
+use Rattle.part.specs.Parts.{Part, doing, checking, started, outward}
 use Rattle.part.specs.Receiving.{code_answer}
 
 -- ---- locked twins

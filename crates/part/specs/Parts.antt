@@ -1,5 +1,5 @@
 -- The part: a loader with its flash.
-use Rattle.std.specs.Prelude.{ℕ, Bool, true, false, List, [], Some, None, Option, slice_index}
+use Rattle.std.specs.Prelude.{ℕ, Bool, false, List, [], None, Option, slice_index}
 use Rattle.commands.specs.declared.kinds.Level.{Level}
 use Rattle.flash.specs.Meaning.{Meaning, without_words}
 use Rattle.part.specs.declared.identity.Identity.{Identity}

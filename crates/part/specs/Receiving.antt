@@ -1,5 +1,5 @@
 -- What a byte does to a part that is not busy.
-use Rattle.std.specs.Prelude.{ℕ, ◌+◌, ◌*◌, ◌/◌, Bool, true, false, cond, List, [], ◌∷◌, ◌++◌, length, take, drop, Ok, Err, Result, ◌==◌, nat_lt}
+use Rattle.std.specs.Prelude.{ℕ, ◌*◌, ◌/◌, true, false, cond, List, [], ◌∷◌, ◌++◌, length, take, drop, Ok, Err, Result, ◌==◌, nat_lt}
 use Rattle.areas.specs.declared.map.Area.{Area}
 use Rattle.areas.specs.declared.map.Area.TheVariants.{User, Options, Outside}
 use Rattle.commands.specs.declared.codes.Code.{Code}
@@ -18,8 +18,8 @@ use Rattle.areas.specs.Words.{bytes_of_words}
 use Rattle.flash.specs.Meaning.{Meaning}
 use Rattle.memory.specs.Portions.{area_words}
 use Rattle.part.specs.declared.identity.Identity.{Identity}
-use Rattle.part.specs.Levels.{level_of, unlock_word, level_byte}
-use Rattle.part.specs.Parts.{Wire, Task, writing, setting, checking, erasing, protecting, Hand, none, unprotecting, doing}
+use Rattle.part.specs.Levels.{level_byte}
+use Rattle.part.specs.Parts.{Wire, writing, setting, checking, erasing, protecting, Hand, none, unprotecting, doing}
 
 -- the answer frame of a code, without data
 abbrev pub code_answer : Code → List ℕ

@@ -1,6 +1,6 @@
 -- Rows that the checker computes from the definitions: the printed examples of the protocol, and worked runs that show that
 -- the laws are not empty.
-use Rattle.std.specs.Prelude.{◌≡◌, ℕ, Bool, true, false, List, [], ◌∷◌, ◌++◌, map, replicate, Some, None, Ok, Err, Option, Result, slice_index, slice_index_or}
+use Rattle.std.specs.Prelude.{◌≡◌, ℕ, true, List, [], ◌∷◌, ◌++◌, map, replicate, Some, Ok, Option, Result, slice_index, slice_index_or}
 use Rattle.checksum.specs.Crc.{crc}
 use Rattle.commands.specs.declared.codes.Refusal.{Refusal}
 use Rattle.commands.specs.declared.kinds.Level.{Level}
@@ -12,10 +12,9 @@ use Rattle.flash.specs.Faults.{word_not_erased}
 use Rattle.flash.specs.Meaning.{Meaning, blank}
 use Rattle.part.specs.declared.identity.Identity.{Identity}
 use Rattle.part.specs.declared.report.CommandFault.{CommandFault}
-use Rattle.part.specs.Events.{Event, byte, work, reset, cut, cut_work, Said, silent, accepted, bytes, bytes_and_ticket, nothing, ongoing, says, run}
+use Rattle.part.specs.Events.{Event, byte, work, reset, cut, cut_work, Said, silent, bytes, bytes_and_ticket, says, run}
 use Rattle.part.specs.Levels.{lock_word, unlock_word}
-use Rattle.part.specs.Parts.{Part, Hand, writing, doing, started, outward}
-use Rattle.part.specs.Working.{report}
+use Rattle.part.specs.Parts.{Part, started, outward}
 
 -- what a row tells
 pub data Fact : Type 0 where

@@ -1,5 +1,5 @@
 -- What one work call does: one portion of the command in hand.
-use Rattle.std.specs.Prelude.{ℕ, ◌+◌, ◌-◌, ◌*◌, ◌/◌, min, Bool, true, false, cond, List, [], ◌∷◌, ◌++◌, length, take, drop, Some, None, Ok, Err, Option, Result, ◌==◌, bit_xor, nat_le, nat_lt}
+use Rattle.std.specs.Prelude.{ℕ, ◌+◌, ◌-◌, ◌*◌, ◌/◌, min, cond, List, [], ◌∷◌, ◌++◌, length, take, drop, Some, Ok, Err, Option, Result, ◌==◌, bit_xor, nat_le, nat_lt}
 use Rattle.checksum.specs.Crc.{feeds}
 use Rattle.commands.specs.declared.kinds.Kind.TheVariants.{Write as WriteKind, MemoryCrc, Erase, Protect, Unprotect}
 use Rattle.commands.specs.Kinds.{kind_byte}

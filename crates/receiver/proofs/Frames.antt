@@ -1,5 +1,5 @@
 -- One byte more of an open frame.
-use Rattle.std.proofs.Common.{◌≡◌, ℕ, ◌+◌, ◌*◌, ◌<◌, ◌≤◌, Bool, true, false, cond, eqb, ltb, leb, List, [], ◌∷◌, ◌++◌, length, get_or, sym, refl, ap, ◌∙◌, ap₂, arith}
+use Rattle.std.proofs.Common.{◌≡◌, ℕ, ◌+◌, ◌*◌, ◌<◌, ◌≤◌, true, false, List, [], ◌∷◌, ◌++◌, length, sym, ap, ◌∙◌, ap₂, arith}
 use Rattle.std.proofs.lemmas.List.{length_push, get_or_append_left}
 use Rattle.std.proofs.lemmas.Bool.Decides.{nat_tests}
 use Rattle.flash.specs.Meaning.{Meaning}
@@ -9,7 +9,7 @@ use Rattle.frame.specs.Layout.{length_field, total}
 use Rattle.frame.specs.Places.{judged}
 use Rattle.part.specs.declared.identity.Identity.{Identity}
 use Rattle.part.specs.Parts.{Wire, none}
-use Rattle.part.specs.Receiving.{Heard, quiet, heard, framing, waiting, answering, answered, code_answer}
+use Rattle.part.specs.Receiving.{quiet, heard, framing, waiting, answering, answered, code_answer}
 use Rattle.receiver.specs.declared.state.State.{State}
 use Rattle.receiver.specs.declared.state.State.TheVariants.{Header, Data, Crc}
 use Rattle.receiver.specs.States.{comes_to, wire_in, busy_in}

@@ -9,7 +9,7 @@ use Rattle.frame.specs.Places.{judged}
 use Rattle.memory.specs.Portions.{words_at}
 use Rattle.part.specs.declared.identity.Identity.{Identity}
 use Rattle.part.specs.Parts.{Wire, Hand, none}
-use Rattle.part.specs.Receiving.{Heard, Reply, quiet, replied, waiting, answering, taking, answered, code_answer, data_answer, information}
+use Rattle.part.specs.Receiving.{Heard, quiet, replied, waiting, answering, taking, answered, code_answer, data_answer, information}
 use Rattle.receiver.specs.declared.receiver.Receiver.{Receiver}
 use Rattle.receiver.specs.declared.state.Order.{Order}
 use Rattle.receiver.specs.declared.state.Order.TheVariants.{Ignore, Refuse, Tell, Show, Take}

@@ -1,6 +1,6 @@
 -- A list with one event more.
-use Rattle.std.proofs.Common.{◌≡◌, ℕ, ◌+◌, ◌<◌, List, [], ◌∷◌, ◌++◌, map, length, get_or, take, sym, refl, ap, ◌∙◌}
-use Rattle.std.proofs.lemmas.List.{map_push, map_more, take_more}
+use Rattle.std.proofs.Common.{◌≡◌, ℕ, ◌+◌, ◌<◌, List, [], ◌∷◌, ◌++◌, length, take, sym, refl, ap, ◌∙◌}
+use Rattle.std.proofs.lemmas.List.{map_push}
 use Rattle.part.specs.Events as part
 use Rattle.part.specs.Parts.{Part}
 use Rattle.runs.specs.declared.events.Event.{Event}

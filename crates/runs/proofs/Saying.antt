@@ -1,8 +1,8 @@
 -- What the answers of a loader say.
-use Rattle.std.proofs.Common.{◌≡◌, ℕ, Bool, true, false, cond, ltb, List, length, drop, sym, refl, ap, ◌∙◌, ap₂}
+use Rattle.std.proofs.Common.{◌≡◌, ℕ, Bool, true, false, cond, ltb, List, length, drop, refl, ap, ◌∙◌, ap₂}
 use Rattle.std.proofs.lemmas.List.{take_at}
 use Rattle.frame.specs.Layout.{headed}
-use Rattle.part.specs.Events.{Said, small_buffer, silent, bytes, bytes_and_ticket, byte_said, byte_says, work_said, work_says, least_buffer, busy, hears, next_portion}
+use Rattle.part.specs.Events.{small_buffer, silent, bytes, byte_said, byte_says, work_said, work_says, least_buffer, busy, hears, next_portion}
 use Rattle.part.specs.Parts.{Part}
 use Rattle.part.specs.Receiving.{Reply, quiet, taken_up, replied}
 use Rattle.part.specs.Working.{Outcome, idle, going, done, done_ticket, differs, refused}

@@ -1,7 +1,7 @@
 -- What a line asks for is read back from its text, and is all that is read.
-use Rattle.std.proofs.Common.{◌≡◌, ℕ, suc, ◌+◌, ◌-◌, ◌^◌, ◌<◌, ◌≤◌, Bool, true, false, cond, not, ◌&&◌, eqb, List, [], ◌∷◌, ◌++◌, map, length, get_or, Some, None, decimal, Option, sym, refl, ap, ◌∙◌, subst, ap₂, arith}
+use Rattle.std.proofs.Common.{◌≡◌, ℕ, suc, ◌^◌, ◌<◌, Bool, true, not, ◌&&◌, eqb, List, [], ◌∷◌, map, Some, None, decimal, Option, sym, refl, ap, ◌∙◌, subst, ap₂, arith}
 use Rattle.std.proofs.lemmas.Fmt.{digits_decimal}
-use Rattle.std.proofs.ByRecursion.{All-append, All-map, All-from_get_or, All-weaker}
+use Rattle.std.proofs.ByRecursion.{All-append, All-from_get_or}
 use Rattle.std.proofs.lemmas.Slice.Eq.{bytes_eq-Decides}
 use Rattle.std.proofs.lemmas.Str.Parse.{not_in_digits}
 use Rattle.std.proofs.lemmas.Bool.{cond_both, and_parts, eqb-false, not-true}
@@ -17,7 +17,7 @@ use Rattle.commands.specs.Fields.{Bytes}
 use Rattle.frame.proofs.Readback.{bytes_nil, bytes_cons}
 use Rattle.script.specs.Forms.{Asked, request, answer, verdict, verb_text, verb_for, words_for, shown, Fits}
 use Rattle.script.specs.Grammar.{verbs, verb_among, verb_in, given, taken, ended, bytes_taken, most, asked_by, asked_in, asked_or_none, asked_on}
-use Rattle.text.specs.Lines.{first_by, behind, put_first, all_by, wordless, line_text, words_in}
+use Rattle.text.specs.Lines.{put_first, all_by, line_text, words_in}
 use Rattle.text.specs.Texts.{Reads}
 use Rattle.text.proofs.Numbers.{own, up_to_back, up_to_only}
 use Rattle.text.proofs.Separated.{Plain, words_back, words_only}

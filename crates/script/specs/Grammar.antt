@@ -1,5 +1,5 @@
 -- Reading a line of the frame tool, word by word.
-use Rattle.std.specs.Prelude.{ℕ, Bool, true, false, cond, List, [], ◌∷◌, Some, None, Option}
+use Rattle.std.specs.Prelude.{ℕ, cond, List, [], ◌∷◌, Some, None, Option}
 use Rattle.std.specs.Option.{option_map}
 use Rattle.std.specs.Str.{bytes_eq}
 use Rattle.commands.specs.Requests.{get, read, write, memory_crc, erase, protect, unprotect}

@@ -1,15 +1,15 @@
 -- A task is known by the command in hand that it is, and by the ticket.
-use Rattle.std.proofs.Common.{◌≡◌, ℕ, ◌+◌, ◌-◌, ◌*◌, ◌/◌, ◌≤◌, min, max, Bool, true, false, List, [], length, drop, IfSome, Some, None, Option, sym, refl, ap, ◌∙◌, ap₂, arith}
+use Rattle.std.proofs.Common.{◌≡◌, ℕ, ◌-◌, ◌*◌, ◌/◌, ◌≤◌, min, max, Bool, true, false, List, [], length, drop, IfSome, Some, None, Option, sym, refl, ap, ◌∙◌, ap₂, arith}
 use Rattle.std.proofs.lemmas.List.{length-take, length-drop}
 use Rattle.std.proofs.lemmas.Bool.Decides.{nat_tests}
 use Rattle.commands.specs.Requests.{stored_bytes}
-use Rattle.part.specs.Parts.{Wire, Hand, none, unprotecting, doing, writing, setting, checking, erasing, protecting}
+use Rattle.part.specs.Parts.{Hand, none, unprotecting, doing, writing, setting, checking, erasing, protecting}
 use Rattle.receiver.specs.declared.receiver.Receiver.{Receiver}
 use Rattle.receiver.specs.declared.state.State.{State}
 use Rattle.receiver.specs.declared.state.State.TheVariants.{Unconnected, Between, Header, Data, Crc, Busy}
 use Rattle.receiver.specs.declared.task.Task.{Task}
 use Rattle.receiver.specs.declared.task.Task.TheVariants.{Writing, Setting, Checking, Erasing, Protecting, Unprotecting, AwaitingReset}
-use Rattle.receiver.specs.Receivers.{wire_of, hand_of, ticket_of}
+use Rattle.receiver.specs.Receivers.{wire_of}
 use Rattle.receiver.specs.States.{bounded, hand_in, hand_for, ticket_in, ticket_for, task_in}
 use Rattle.twin_parts.specs.Hands.{Alike, data_in}
 

@@ -1,5 +1,5 @@
 -- Commands in hand, compared.
-use Rattle.std.specs.Prelude.{◌≡◌, ℕ, ◌/◌, Bool, true, false, List, [], length, Some, None, Option}
+use Rattle.std.specs.Prelude.{◌≡◌, ℕ, List, [], Some, None, Option}
 use Rattle.commands.specs.Requests.{stored_bytes}
 use Rattle.receiver.specs.declared.receiver.Receiver.{Receiver}
 use Rattle.receiver.specs.declared.task.Task.{Task}

@@ -1,4 +1,4 @@
-use Rattle.std.proofs.Common.{◌≡◌, arith}
+use Rattle.std.proofs.Common.{arith}
 use Rattle.checksum.proofs.Laws.{one_byte}
 use Rattle.checksum.proofs.one_byte.Goals as goal
 

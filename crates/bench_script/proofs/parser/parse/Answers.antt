@@ -1,4 +1,4 @@
-use Rattle.std.proofs.Common.{◌≡◌, IfOk, Some, None, rules}
+use Rattle.std.proofs.Common.{◌≡◌, IfOk, None, rules}
 use Rattle.std.proofs.lemmas.Result.{IfOk-weaker}
 use Rattle.std.specs.Option.{option_map}
 use Rattle.bench_script.specs.Forms.{meant}

@@ -1,4 +1,4 @@
-use Rattle.std.proofs.Common.{◌≡◌, ℕ, List, [], ◌∷◌, ◌++◌, vec_items, codes, decimal, ap, ◌∙◌, ap₂}
+use Rattle.std.proofs.Common.{ℕ, List, [], ◌∷◌, vec_items, codes, decimal, ◌∙◌, ap₂}
 use Rattle.std.proofs.lemmas.Result.{IfOk-weaker}
 use Rattle.text.proofs.Added.{words_added, line_made}
 use Rattle.text.specs.Digits.{hex_byte, hex_long}

@@ -1,4 +1,4 @@
-use Rattle.std.proofs.Common.{◌≡◌, ap, ◌∙◌, arith}
+use Rattle.std.proofs.Common.{ap, ◌∙◌, arith}
 use Rattle.commands.specs.Codes.{code_byte}
 use Rattle.frame.proofs.Frames.{opened_framed}
 use Rattle.frame.proofs.Readback.{code_of_byte}

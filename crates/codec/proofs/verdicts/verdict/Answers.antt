@@ -1,4 +1,4 @@
-use Rattle.std.proofs.Common.{◌≡◌, ap, ◌∙◌, ap₂}
+use Rattle.std.proofs.Common.{ap, ◌∙◌, ap₂}
 use Rattle.frame.specs.Places.{judged}
 use Rattle.codec.specs.Verdict.{code_from}
 use Rattle.codec.proofs.verdicts.verdict.Goals as goal

@@ -1,6 +1,6 @@
-use Rattle.std.proofs.Common.{◌≡◌, Err, sym, ap, ◌∙◌, arith}
+use Rattle.std.proofs.Common.{◌≡◌, Err, sym, ap, ◌∙◌}
 use Rattle.std.proofs.lemmas.Bool.{cond-false, le-ltb}
-use Rattle.codec.specs.Writing.{asking, frame_for, written, written_within, count_written, left_by}
+use Rattle.codec.specs.Writing.{asking, frame_for, written, count_written, left_by}
 use Rattle.codec.proofs.Written.{refused}
 use Rattle.codec.proofs.writer.write_checked.Goals as goal
 

@@ -1,4 +1,4 @@
-use Rattle.std.proofs.Common.{◌≡◌, ◌+◌, ◌-◌, ◌≤◌}
+use Rattle.std.proofs.Common.{◌≡◌, ◌+◌, ◌-◌}
 use Rattle.flash.specs.Ranges.{erase_rest_answer, erase_range_leaves}
 use Rattle.flash.proofs.ranges.erase_range.Given as goal
 

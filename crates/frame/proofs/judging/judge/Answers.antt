@@ -1,4 +1,4 @@
-use Rattle.std.proofs.Common.{◌≡◌, sym, ap, ◌∙◌, subst}
+use Rattle.std.proofs.Common.{sym, subst}
 use Rattle.commands.specs.Kinds.{forbidden}
 use Rattle.frame.specs.Layout.{length_field}
 use Rattle.frame.specs.Places.{Standing}

@@ -1,4 +1,4 @@
-use Rattle.std.proofs.Common.{◌≡◌, ◌++◌, sym, ap, ◌∙◌}
+use Rattle.std.proofs.Common.{◌++◌, ap, ◌∙◌}
 use Rattle.checksum.specs.Crc.{feeds}
 use Rattle.frame.proofs.writing.check_of.Goals as goal
 

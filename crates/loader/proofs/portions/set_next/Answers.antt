@@ -1,4 +1,4 @@
-use Rattle.std.proofs.Common.{◌≡◌, ap, ◌∙◌, arith}
+use Rattle.std.proofs.Common.{ap, ◌∙◌, arith}
 use Rattle.flash.specs.Effects.{written}
 use Rattle.memory.specs.Portions.{options_replaced}
 use Rattle.part.specs.Working.{options_portion, words_from}

@@ -1,4 +1,3 @@
-use Rattle.std.proofs.Common.{◌≡◌}
 use Rattle.memory.proofs.Options.{four_places}
 use Rattle.memory.proofs.portions.option_words.Goals as goal
 

@@ -1,4 +1,4 @@
-use Rattle.std.proofs.Common.{◌≡◌, ℕ, ◌+◌, ◌*◌, ◌<◌, ◌≤◌, length, get_or, take, drop, sym, ap, ◌∙◌, subst, arith}
+use Rattle.std.proofs.Common.{◌≡◌, ℕ, ◌+◌, ◌*◌, ◌<◌, length, get_or, take, drop, sym, ap, ◌∙◌, arith}
 use Rattle.areas.specs.Words.{bytes_of_words}
 use Rattle.areas.proofs.Words.{stretch_end}
 use Rattle.memory.specs.Portions.{area_words}

@@ -1,4 +1,4 @@
-use Rattle.std.proofs.Common.{◌≡◌, refl}
+use Rattle.std.proofs.Common.{refl}
 use Rattle.checksum.specs.Crc.{step as shift, steps, feed, feeds, crc}
 use Rattle.flash.specs.Meaning.{blank_page, page_written}
 use Rattle.part.specs.Events.{step, says}

@@ -1,10 +1,10 @@
-use Rattle.std.proofs.Common.{◌≡◌, ℕ, ◌/◌, length, take, drop, sym, refl, ap, ◌∙◌, subst, arith, rules}
+use Rattle.std.proofs.Common.{ℕ, ◌/◌, length, take, drop, sym, ap, ◌∙◌, subst, rules}
 use Rattle.areas.specs.declared.map.Area.{Area}
 use Rattle.areas.specs.Areas.{place_of}
 use Rattle.areas.specs.Words.{bytes_of_words}
 use Rattle.frame.specs.Places.{asked, Placed, Measured}
 use Rattle.memory.specs.Portions.{words_at}
-use Rattle.part.specs.Parts.{Hand, doing, checking}
+use Rattle.part.specs.Parts.{doing, checking}
 use Rattle.part.specs.Receiving.{served, answering, data_answer, taking, write_task, erase_task}
 use Rattle.receiver.proofs.Stored.{stored_same}
 use Rattle.receiver.proofs.deciding.order.Goals as goal

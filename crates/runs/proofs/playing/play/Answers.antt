@@ -1,4 +1,4 @@
-use Rattle.std.proofs.Common.{◌≡◌, get_or, vec_items, sym, refl, ap, ◌∙◌}
+use Rattle.std.proofs.Common.{get_or, vec_items, refl, ap, ◌∙◌}
 use Rattle.std.proofs.lemmas.List.{take_all, take_more}
 use Rattle.runs.specs.declared.events.Event.TheVariants.{Byte}
 use Rattle.part.specs.Events.{answers, run}

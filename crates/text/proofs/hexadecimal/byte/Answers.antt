@@ -1,4 +1,4 @@
-use Rattle.std.proofs.Common.{◌≡◌, ◌+◌, ◌*◌, Some, None, rules}
+use Rattle.std.proofs.Common.{◌≡◌, ◌+◌, ◌*◌, Some, rules}
 use Rattle.text.specs.Digits.{byte_in}
 use Rattle.text.proofs.Spelled.{byte_reads}
 use Rattle.text.proofs.hexadecimal.byte.Goals as goal

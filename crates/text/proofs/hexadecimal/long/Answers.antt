@@ -1,4 +1,4 @@
-use Rattle.std.proofs.Common.{◌≡◌, ◌+◌, ◌*◌, Some, None, ◌∙◌, rules}
+use Rattle.std.proofs.Common.{◌≡◌, ◌+◌, ◌*◌, Some, ◌∙◌, rules}
 use Rattle.text.specs.Digits.{long_in}
 use Rattle.text.proofs.Spelled.{long_reads, long_low_none}
 use Rattle.text.proofs.hexadecimal.long.Goals as goal

@@ -1,4 +1,4 @@
-use Rattle.std.proofs.Common.{◌≡◌, ◌+◌, ◌*◌, Some, None, rules}
+use Rattle.std.proofs.Common.{◌≡◌, ◌+◌, ◌*◌, Some, rules}
 use Rattle.text.specs.Digits.{short_in}
 use Rattle.text.proofs.Spelled.{short_reads}
 use Rattle.text.proofs.hexadecimal.short.Goals as goal

@@ -1,4 +1,4 @@
-use Rattle.std.proofs.Common.{◌≡◌, [], ◌∷◌, get_or}
+use Rattle.std.proofs.Common.{[], ◌∷◌, get_or}
 use Rattle.text.proofs.output.hex_long.Goals as goal
 
 pub returns : goal.returns

@@ -1,4 +1,4 @@
-use Rattle.std.proofs.Common.{arith, rules}
+use Rattle.std.proofs.Common.{arith}
 use Rattle.std.proofs.lemmas.List.{at_drop_all}
 use Rattle.text.specs.Lines.{before_blank}
 use Rattle.text.proofs.Cuts.{blank_here, blank_later}

@@ -1,7 +1,7 @@
-use Rattle.std.proofs.Common.{◌≡◌, ℕ, Bool, true, false, List, length, IfSome, Option, sym, refl, ap, ◌∙◌, subst, arith}
+use Rattle.std.proofs.Common.{◌≡◌, ℕ, true, length, IfSome, Option, sym, refl, ap, ◌∙◌, subst, arith}
 use Rattle.receiver.specs.declared.task.Task.{Task}
 use Rattle.receiver.specs.States.{bounded}
-use Rattle.twin_parts.specs.Hands.{Alike, data_in}
+use Rattle.twin_parts.specs.Hands.{data_in}
 use Rattle.twin_parts.proofs.Hands.{alike, same_task, same_data}
 use Rattle.twin_parts.proofs.receivers.same_reception.Goals as goal
 

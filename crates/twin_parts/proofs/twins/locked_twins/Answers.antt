@@ -1,8 +1,8 @@
-use Rattle.std.proofs.Common.{◌≡◌, Bool, true, List, sym, refl, ap, ◌∙◌, subst}
+use Rattle.std.proofs.Common.{◌≡◌, true, sym, refl, ap, ◌∙◌, subst}
 use Rattle.flash.specs.Meaning.{without_words}
-use Rattle.part.specs.Events.{Event, answers, run}
+use Rattle.part.specs.Events.{answers}
 use Rattle.part.specs.Laws.{OneList}
-use Rattle.part.specs.Parts.{Part, started, outward}
+use Rattle.part.specs.Parts.{Part, outward}
 use Rattle.part.proofs.Twins.{locked_twins_answer_alike}
 use Rattle.receiver.specs.Receivers.{wire_of, hand_of, ticket_of}
 use Rattle.loader.specs.Loaders.{part_of}

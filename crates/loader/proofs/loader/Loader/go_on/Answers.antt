@@ -1,4 +1,4 @@
-use Rattle.std.proofs.Common.{◌≡◌, sym, refl, ap, ◌∙◌}
+use Rattle.std.proofs.Common.{ap, ◌∙◌}
 use Rattle.frame.specs.Layout.{headed}
 use Rattle.loader.specs.declared.answers.Worked.TheVariants.{Bytes}
 use Rattle.loader.specs.Loaders.{worked_as, said_bytes}

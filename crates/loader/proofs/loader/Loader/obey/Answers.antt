@@ -1,14 +1,13 @@
-use Rattle.std.proofs.Common.{◌≡◌, ℕ, Bool, true, cond, length, sym, refl, ap, ◌∙◌}
+use Rattle.std.proofs.Common.{ℕ, Bool, cond, length, sym, ap, ◌∙◌}
 use Rattle.areas.specs.Words.{bytes_of_words}
 use Rattle.frame.specs.Layout.{headed}
 use Rattle.memory.specs.Portions.{words_at}
 use Rattle.part.specs.Events.{after_byte, byte_said}
 use Rattle.part.specs.Receiving.{Heard, quiet, replied, code_answer, data_answer, information}
 use Rattle.receiver.specs.declared.state.Order.TheVariants.{Ignore, Refuse, Tell, Show, Take}
-use Rattle.receiver.specs.declared.state.State.{State}
 use Rattle.receiver.specs.declared.state.State.TheVariants.{Busy}
 use Rattle.loader.specs.declared.answers.Received.TheVariants.{Bytes}
-use Rattle.loader.specs.Loaders.{part_of, order_of, received_as, said_bytes}
+use Rattle.loader.specs.Loaders.{part_of, received_as, said_bytes}
 use Rattle.loader.proofs.Obeying.{ordered, rests, takes_up}
 use Rattle.loader.proofs.loader.Loader.obey.Goals as goal
 

@@ -1,4 +1,4 @@
-use Rattle.std.proofs.Common.{◌≡◌, ℕ, Bool, true, false, length, sym, refl, ap, ◌∙◌, arith}
+use Rattle.std.proofs.Common.{◌≡◌, ℕ, Bool, true, false, length, refl, ap, ◌∙◌, arith}
 use Rattle.frame.specs.Layout.{headed}
 use Rattle.receiver.specs.Receivers.{busy_of}
 use Rattle.loader.specs.Loaders.{received_as, said_bytes}

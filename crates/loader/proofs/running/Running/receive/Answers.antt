@@ -1,4 +1,4 @@
-use Rattle.std.proofs.Common.{◌≡◌, length, sym, ap, ◌∙◌}
+use Rattle.std.proofs.Common.{length, sym, ap, ◌∙◌}
 use Rattle.part.specs.Parts.{Part}
 use Rattle.loader.specs.Loaders.{part_of}
 use Rattle.loader.proofs.Tickets.{byte_keeps_the_ticket}

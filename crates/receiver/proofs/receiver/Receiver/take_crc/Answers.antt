@@ -1,4 +1,4 @@
-use Rattle.std.proofs.Common.{◌≡◌, ℕ, ◌≤◌, length, sym, refl, ap, ◌∙◌, arith}
+use Rattle.std.proofs.Common.{◌≡◌, ℕ, ◌≤◌, length, refl, ◌∙◌, arith}
 use Rattle.std.proofs.lemmas.Bool.Decides.{nat_tests}
 use Rattle.receiver.specs.Stores.{held}
 use Rattle.receiver.proofs.Frames.{in_crc, to_crc, length_more, field_more, heard_open, heard_whole, waits, crc_wire, free}

@@ -1,4 +1,4 @@
-use Rattle.std.proofs.Common.{◌≡◌, ℕ, sym, refl, ap, ◌∙◌, arith}
+use Rattle.std.proofs.Common.{◌≡◌, ℕ, refl, ◌∙◌, arith}
 use Rattle.std.proofs.lemmas.Bool.Decides.{nat_tests}
 use Rattle.receiver.specs.Stores.{held}
 use Rattle.receiver.proofs.Frames.{in_data, to_data, to_crc, length_more, field_more, heard_open, waits, data_wire, free}

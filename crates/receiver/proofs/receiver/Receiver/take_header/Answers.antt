@@ -1,4 +1,4 @@
-use Rattle.std.proofs.Common.{◌≡◌, ℕ, ◌≤◌, sym, refl, ap, ◌∙◌, arith}
+use Rattle.std.proofs.Common.{◌≡◌, ℕ, refl, ◌∙◌, arith}
 use Rattle.std.proofs.lemmas.Bool.Decides.{nat_tests}
 use Rattle.receiver.specs.Stores.{held}
 use Rattle.receiver.proofs.Frames.{in_header, to_header, to_data, length_more, heard_short, heard_long, heard_open, heard_whole, waits, header_wire, free}

@@ -1,4 +1,4 @@
-use Rattle.std.proofs.Common.{◌≡◌, ◌++◌, vec_items, ap, ◌∙◌}
+use Rattle.std.proofs.Common.{◌++◌, vec_items, ap, ◌∙◌}
 use Rattle.std.specs.Option.{option_map}
 use Rattle.text.specs.Cursor.{left}
 use Rattle.text.specs.Digits.{byte_in}

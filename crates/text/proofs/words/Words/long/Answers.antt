@@ -1,4 +1,4 @@
-use Rattle.std.proofs.Common.{◌≡◌, ◌∙◌}
+use Rattle.std.proofs.Common.{◌∙◌}
 use Rattle.text.specs.Cursor.{left}
 use Rattle.text.specs.Digits.{long_in}
 use Rattle.text.proofs.Cuts.{first_is}
