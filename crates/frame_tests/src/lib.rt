@@ -57,7 +57,7 @@ mod tests {
             Ok(Command::Write { address, at, bytes }) => {
                 assert_eq!(rt; address, 0x0800_0000);
                 assert_eq!(rt; at, 8);
-                assert!(rt; bytes == b"\x11\x22\x33\x44");
+                assert!(rt; bytes == b"\x11\x22\x33\x44".as_slice());
                 Ok(())
             }
             _ => Err(Fail::new("no write")),

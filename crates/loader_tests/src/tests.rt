@@ -52,12 +52,12 @@ fn no_page_to_erase_or_read(rt: HostRuntime) {
     assert_eq!(rt; erased, Said::Bytes(4));
     assert!(rt; &buffer[0..4] == DONE);
     assert_eq!(rt; idle, Said::Idle);
-    assert!(rt; &page[0..4] == b"\xB3\x6A\x00\x00");
-    assert!(rt; &user[0..4] == b"\xB3\x6A\x00\x00");
+    assert!(rt; &page[0..4] == b"\xB3\x6A\x00\x00".as_slice());
+    assert!(rt; &user[0..4] == b"\xB3\x6A\x00\x00".as_slice());
     assert_eq!(rt; shown, Said::Bytes(22));
     assert!(rt;
         &options[0..22]
-            == b"\xB3\x90\x00\x10\xAA\x00\x00\x00\x01\x02\x03\x04\x05\x06\x07\x08\x09\x0A\x0B\x0C\xCC\x33"
+            == b"\xB3\x90\x00\x10\xAA\x00\x00\x00\x01\x02\x03\x04\x05\x06\x07\x08\x09\x0A\x0B\x0C\xCC\x33".as_slice()
     );
 }
 
@@ -80,10 +80,10 @@ fn no_page_opens_at_once(rt: HostRuntime) {
     let _ = send(&mut loader, GET_LEVEL, &mut opened);
     let flash = off(loader, None);
     assert_eq!(rt; protected, Said::Ticket(4));
-    assert!(rt; &locked[0..7] == b"\xB3\x90\x00\x01\x01\xE1\xF1");
+    assert!(rt; &locked[0..7] == b"\xB3\x90\x00\x01\x01\xE1\xF1".as_slice());
     assert_eq!(rt; unprotected, Said::Ticket(4));
     assert!(rt; &buffer[0..4] == DONE);
-    assert!(rt; &opened[0..7] == b"\xB3\x90\x00\x01\x00\xF0\x78");
+    assert!(rt; &opened[0..7] == b"\xB3\x90\x00\x01\x00\xF0\x78".as_slice());
     assert_eq!(rt; flash.option_word(0), Ok(0xAA));
     assert_eq!(rt; flash.option_word(3), Ok(0x0C0B_0A09));
     assert_eq!(rt; flash.option_writes_left(), 0);
@@ -122,12 +122,12 @@ fn two_chips_written_and_erased(rt: HostRuntime) -> Result<(), Fail> {
     let _ = send(&mut loader, READ_4, &mut blank);
     let flash = off(loader, None);
     assert_eq!(rt; written, Said::Bytes(4));
-    assert!(rt; &full[0..10] == b"\xB3\x90\x00\x04\x11\x22\x33\x44\x0D\xAD");
+    assert!(rt; &full[0..10] == b"\xB3\x90\x00\x04\x11\x22\x33\x44\x0D\xAD".as_slice());
     assert_eq!(rt; again, Said::Bytes(4));
-    assert!(rt; &refusal[0..4] == b"\xB3\x65\x00\x00");
+    assert!(rt; &refusal[0..4] == b"\xB3\x65\x00\x00".as_slice());
     assert_eq!(rt; erased, Said::Bytes(4));
     assert!(rt; &buffer[0..4] == DONE);
-    assert!(rt; &blank[0..10] == b"\xB3\x90\x00\x04\xFF\xFF\xFF\xFF\x0F\x47");
+    assert!(rt; &blank[0..10] == b"\xB3\x90\x00\x04\xFF\xFF\xFF\xFF\x0F\x47".as_slice());
     assert_eq!(rt; flash.erases_left(0), Ok(2));
     match report {
         Some(fault) => {
@@ -180,11 +180,11 @@ fn two_chips_locked_and_opened(rt: HostRuntime) {
     let _ = send(&mut loader, READ_4, &mut blank);
     let flash = off(loader, None);
     assert_eq!(rt; protected, Said::Ticket(4));
-    assert!(rt; &locked[0..4] == b"\xB3\x63\x00\x00");
+    assert!(rt; &locked[0..4] == b"\xB3\x63\x00\x00".as_slice());
     assert_eq!(rt; taken, Said::Taken);
     assert_eq!(rt; eighth, Said::Going);
     assert_eq!(rt; ninth, Said::Ticket(4));
-    assert!(rt; &blank[0..10] == b"\xB3\x90\x00\x04\xFF\xFF\xFF\xFF\x0F\x47");
+    assert!(rt; &blank[0..10] == b"\xB3\x90\x00\x04\xFF\xFF\xFF\xFF\x0F\x47".as_slice());
     assert_eq!(rt; flash.word(1023), Ok(BLANK));
 }
 
@@ -211,11 +211,11 @@ fn a_small_buffer_takes_no_byte(rt: HostRuntime) {
     assert_eq!(rt; greeted, Said::Bytes(1));
     assert_eq!(rt; open, Said::Quiet);
     assert_eq!(rt; last, Said::Small);
-    assert!(rt; &small[0..517] == &[0xEE; 517]);
+    assert!(rt; &small[0..517] == [0xEE; 517].as_slice());
     assert_eq!(rt; shown, Said::Bytes(518));
-    assert!(rt; &buffer[0..4] == b"\xB3\x90\x02\x00");
-    assert!(rt; &buffer[4..516] == &[0xFF; 512]);
-    assert!(rt; &buffer[516..518] == b"\x56\x69");
+    assert!(rt; &buffer[0..4] == b"\xB3\x90\x02\x00".as_slice());
+    assert!(rt; &buffer[4..516] == [0xFF; 512].as_slice());
+    assert!(rt; &buffer[516..518] == b"\x56\x69".as_slice());
 }
 
 #[test]
@@ -233,10 +233,10 @@ fn a_small_buffer_does_no_work(rt: HostRuntime) {
     let flash = off(loader, ticket);
     assert_eq!(rt; taken, Said::Taken);
     assert_eq!(rt; refused, Said::Small);
-    assert!(rt; &small[0..517] == &[0xEE; 517]);
+    assert!(rt; &small[0..517] == [0xEE; 517].as_slice());
     assert_eq!(rt; erased, Said::Bytes(4));
     assert!(rt; &buffer[0..4] == DONE);
-    assert!(rt; &buffer[4..600] == &[0xEE; 596]);
+    assert!(rt; &buffer[4..600] == [0xEE; 596].as_slice());
     assert_eq!(rt; flash.erases_left(0), Ok(2));
     assert_eq!(rt; flash.word(127), Ok(BLANK));
     assert_eq!(rt; flash.word(128), Ok(0));
@@ -272,7 +272,7 @@ fn a_ticket_of_another_part(rt: HostRuntime) {
     assert_eq!(rt; said, Said::Ticket(4));
     assert_eq!(rt; other_said, Said::Ticket(4));
     assert_eq!(rt; heard, Said::Bytes(1));
-    assert!(rt; &level[0..7] == b"\xB3\x90\x00\x01\x01\xE1\xF1");
+    assert!(rt; &level[0..7] == b"\xB3\x90\x00\x01\x01\xE1\xF1".as_slice());
     assert_eq!(rt; deaf, Said::Quiet);
     assert_eq!(rt; idle, Said::Idle);
     assert_eq!(rt; again, Said::Bytes(1));
@@ -317,12 +317,14 @@ fn what_get_tells(rt: HostRuntime) {
     let _ = off(loader, None);
     assert_eq!(rt; told, Said::Bytes(16));
     assert!(rt;
-        &buffer[0..16] == b"\xB3\x90\x00\x0A\x5A\x01\xF1\xF2\xF3\xF4\xA0\xA1\x00\x00\x77\x5B"
+        &buffer[0..16]
+            == b"\xB3\x90\x00\x0A\x5A\x01\xF1\xF2\xF3\xF4\xA0\xA1\x00\x00\x77\x5B".as_slice()
     );
-    assert!(rt; &buffer[16..600] == &[0xEE; 584]);
+    assert!(rt; &buffer[16..600] == [0xEE; 584].as_slice());
     assert!(rt;
-        &uid[0..18] == b"\xB3\x90\x00\x0C\x10\x11\x12\x13\x14\x15\x16\x17\x18\x19\x1A\x1B\xDD\x06"
+        &uid[0..18]
+            == b"\xB3\x90\x00\x0C\x10\x11\x12\x13\x14\x15\x16\x17\x18\x19\x1A\x1B\xDD\x06".as_slice()
     );
-    assert!(rt; &version[0..10] == b"\xB3\x90\x00\x04\x01\x02\x00\x00\x55\xDD");
-    assert!(rt; &device[0..12] == b"\xB3\x90\x00\x06\xA1\xB2\x00\x04\x03\x04\x34\x47");
+    assert!(rt; &version[0..10] == b"\xB3\x90\x00\x04\x01\x02\x00\x00\x55\xDD".as_slice());
+    assert!(rt; &device[0..12] == b"\xB3\x90\x00\x06\xA1\xB2\x00\x04\x03\x04\x34\x47".as_slice());
 }
