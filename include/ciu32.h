@@ -1,7 +1,7 @@
 /*
  * CIU32 SPI boot loader protocol, the host's side: writers of command frames, and the verdict on a frame.
  *
- * Link with libcodec.a (`rt staticlib codec` makes target/staticlib/libcodec.a). No function keeps state or allocates.
+ * Link with libcodec.a (`tools/staticlib.sh` makes target/staticlib/libcodec.a). No function keeps state or allocates.
  * The caller owes what C owes: each pointer is not null and good for its length, and a buffer overlaps nothing else.
  *
  * RESULTS. Every function but ciu32_checksum returns one number of three kinds, which never meet:

@@ -4,7 +4,7 @@
 # request with the code that came back, and the page row by row: as it was before,
 # as it was sent, as it was read back.
 #
-#     rt check host && rt check bench && tests/bench/round_trip.sh
+#     tools/programs.sh && tests/bench/round_trip.sh
 #
 # It works in the repository's root and writes only below target/. What it must print
 # is stored in round_trip.expected.

@@ -3,7 +3,7 @@
 # what is stored. Prints one line a run, and a closing line; the exit status is 0
 # only if nothing differs.
 #
-#     rt check host && rt check bench && tests/bench/run.sh
+#     tools/programs.sh && tests/bench/run.sh
 #
 # A stored run is NAME.in with NAME.out. The outputs were printed by `model.py`,
 # which is no part of the program. Works in the repository's root and writes only

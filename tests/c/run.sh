@@ -2,7 +2,7 @@
 # Builds the host's side as a static library, links a C program with it, and compares what the program prints.
 set -eu
 cd "$(dirname "$0")/../.."
-rt staticlib codec >/dev/null
+tools/staticlib.sh
 mkdir -p target/tests
 gcc -std=gnu11 -O2 -Wall -Wextra -Werror -o target/tests/c tests/c/main.c target/staticlib/libcodec.a
 target/tests/c >target/tests/c.out

@@ -6,9 +6,7 @@
 #     tests/misuse/run.sh
 #
 # Works in a folder of its own outside the repository: the loader, the crates below it,
-# and a crate `misuse` that holds one snippet at a time. What the repository's target/
-# already has of those crates is copied along; rt takes it only where the sources have
-# not changed since, and else proves them first, which takes minutes.
+# and a crate `misuse` that holds one snippet at a time.
 set -u
 cd "$(dirname "$0")/../.." || exit 1
 page=docs/LOADER.md
@@ -18,15 +16,11 @@ trap 'exit 1' HUP INT TERM
 
 below=$(sed -n 's/^loader://p' crates.txt)
 for crate in loader flash_kinds $below; do
-    mkdir -p "$scratch/crates/$crate" "$scratch/target/rlib" "$scratch/target/stamp"
+    mkdir -p "$scratch/crates/$crate"
     for folder in src specs proofs; do
         [ ! -d "crates/$crate/$folder" ] || cp -R "crates/$crate/$folder" "$scratch/crates/$crate/" || exit 1
     done
     grep "^$crate:" crates.txt >>"$scratch/crates.txt" || exit 1
-    if [ -f "target/stamp/$crate" ] && [ -d "target/rlib/$crate.rlib" ]; then
-        cp "target/stamp/$crate" "$scratch/target/stamp/" || exit 1
-        cp -R "target/rlib/$crate.rlib" "$scratch/target/rlib/" || exit 1
-    fi
 done
 echo "misuse: loader flash_kinds$below" >>"$scratch/crates.txt"
 mkdir -p "$scratch/crates/misuse/src"
@@ -46,14 +40,14 @@ tried='' wrong=0 refused=0
 try() {
     tried="$tried $1"
     {
+        printf '#![tactic(auto)]\n\n'
         [ $# -lt 2 ] || { snippet "$2" && echo; }
         snippet "$1"
     } >"$scratch/crates/misuse/src/lib.rt"
-    rm -rf "$scratch/target/inc/misuse"
-    (cd "$scratch" && RT_CUT=0 rt dev misuse) >"$scratch/said" 2>&1
+    (cd "$scratch/crates/misuse" && rt check) >"$scratch/said" 2>&1
     status=$?
     # what is held against the snippet, one line each
-    sed -n -e 's/^[^ ]*\/src\/lib\.rt:[0-9]*:[0-9]*: error\[/error[/p' -e 's/^note: [^ ]*\/src\/lib\.rt:[0-9]*:[0-9]*: //p' -e 's/^fn misuse::.* the borrow checker/the borrow checker/p' "$scratch/said" >"$scratch/held"
+    sed -n -e 's/^[^ ]*src\/lib\.rt:[0-9]*:[0-9]*: error\[/error[/p' -e 's/^note: [^ ]*src\/lib\.rt:[0-9]*:[0-9]*: //p' -e 's/^fn misuse::.* the borrow checker/the borrow checker/p' "$scratch/said" | sort -u >"$scratch/held"
 }
 
 failed() {

@@ -1,4 +1,4 @@
-// The writer and the verdict for callers in C, on numbers and byte slices. `include/ciu32.h` declares them.
+// The writer and the verdict on numbers and byte slices, as callers in C have them from the crate codec_c.
 ghost use Rattle.std.specs.Prelude.{◌≡◌, length};
 ghost use Rattle.checksum.specs.Crc.{crc};
 ghost use Rattle.commands.specs.Requests.{get, read, write, memory_crc, erase, protect, unprotect};
@@ -34,8 +34,7 @@ fn export(request: Request<'_>, buffer: &mut [u8]) -> usize
 }
 
 // The verdict on a frame.
-#[unsafe(no_mangle)]
-pub extern "C" fn ciu32_verdict(frame: &[u8], level: u32, pages: u32) -> usize
+pub fn ciu32_verdict(frame: &[u8], level: u32, pages: u32) -> usize
     ensures is_the_number_of_the_verdict { result ≡ verdict_number (verdict_of level pages frame.now) }
 {
     match verdict(frame, level, pages) {
@@ -45,8 +44,7 @@ pub extern "C" fn ciu32_verdict(frame: &[u8], level: u32, pages: u32) -> usize
 }
 
 // Writes the frame of a Get.
-#[unsafe(no_mangle)]
-pub extern "C" fn ciu32_get(information: u8, buffer: &mut [u8]) -> usize
+pub fn ciu32_get(information: u8, buffer: &mut [u8]) -> usize
     ensures tells_how_many_bytes_or_the_first_refusal { result ≡ count_number (written_count (length buffer.old) (get information)) }
     ensures writes_the_frame_and_no_more { buffer.new ≡ written_buffer buffer.old (get information) }
 {
@@ -54,8 +52,7 @@ pub extern "C" fn ciu32_get(information: u8, buffer: &mut [u8]) -> usize
 }
 
 // Writes the frame of a Read.
-#[unsafe(no_mangle)]
-pub extern "C" fn ciu32_read(address: u32, count: u16, buffer: &mut [u8]) -> usize
+pub fn ciu32_read(address: u32, count: u16, buffer: &mut [u8]) -> usize
     ensures tells_how_many_bytes_or_the_first_refusal { result ≡ count_number (written_count (length buffer.old) (read address count)) }
     ensures writes_the_frame_and_no_more { buffer.new ≡ written_buffer buffer.old (read address count) }
 {
@@ -63,8 +60,7 @@ pub extern "C" fn ciu32_read(address: u32, count: u16, buffer: &mut [u8]) -> usi
 }
 
 // Writes the frame of a Write.
-#[unsafe(no_mangle)]
-pub extern "C" fn ciu32_write(address: u32, bytes: &[u8], buffer: &mut [u8]) -> usize
+pub fn ciu32_write(address: u32, bytes: &[u8], buffer: &mut [u8]) -> usize
     ensures tells_how_many_bytes_or_the_first_refusal { result ≡ count_number (written_count (length buffer.old) (write address bytes.now)) }
     ensures writes_the_frame_and_no_more { buffer.new ≡ written_buffer buffer.old (write address bytes.now) }
 {
@@ -72,8 +68,7 @@ pub extern "C" fn ciu32_write(address: u32, bytes: &[u8], buffer: &mut [u8]) -> 
 }
 
 // Writes the frame of a Memory CRC.
-#[unsafe(no_mangle)]
-pub extern "C" fn ciu32_memory_crc(address: u32, count: u32, value: u16, buffer: &mut [u8]) -> usize
+pub fn ciu32_memory_crc(address: u32, count: u32, value: u16, buffer: &mut [u8]) -> usize
     ensures tells_how_many_bytes_or_the_first_refusal { result ≡ count_number (written_count (length buffer.old) (memory_crc address count value)) }
     ensures writes_the_frame_and_no_more { buffer.new ≡ written_buffer buffer.old (memory_crc address count value) }
 {
@@ -81,8 +76,7 @@ pub extern "C" fn ciu32_memory_crc(address: u32, count: u32, value: u16, buffer:
 }
 
 // Writes the frame of an Erase.
-#[unsafe(no_mangle)]
-pub extern "C" fn ciu32_erase(mode: u8, index: u32, count: u32, buffer: &mut [u8]) -> usize
+pub fn ciu32_erase(mode: u8, index: u32, count: u32, buffer: &mut [u8]) -> usize
     ensures tells_how_many_bytes_or_the_first_refusal { result ≡ count_number (written_count (length buffer.old) (erase mode index count)) }
     ensures writes_the_frame_and_no_more { buffer.new ≡ written_buffer buffer.old (erase mode index count) }
 {
@@ -90,8 +84,7 @@ pub extern "C" fn ciu32_erase(mode: u8, index: u32, count: u32, buffer: &mut [u8
 }
 
 // Writes the frame of a Protect.
-#[unsafe(no_mangle)]
-pub extern "C" fn ciu32_protect(buffer: &mut [u8]) -> usize
+pub fn ciu32_protect(buffer: &mut [u8]) -> usize
     ensures tells_how_many_bytes_or_the_first_refusal { result ≡ count_number (written_count (length buffer.old) protect) }
     ensures writes_the_frame_and_no_more { buffer.new ≡ written_buffer buffer.old protect }
 {
@@ -99,8 +92,7 @@ pub extern "C" fn ciu32_protect(buffer: &mut [u8]) -> usize
 }
 
 // Writes the frame of an Unprotect.
-#[unsafe(no_mangle)]
-pub extern "C" fn ciu32_unprotect(buffer: &mut [u8]) -> usize
+pub fn ciu32_unprotect(buffer: &mut [u8]) -> usize
     ensures tells_how_many_bytes_or_the_first_refusal { result ≡ count_number (written_count (length buffer.old) unprotect) }
     ensures writes_the_frame_and_no_more { buffer.new ≡ written_buffer buffer.old unprotect }
 {
@@ -108,8 +100,7 @@ pub extern "C" fn ciu32_unprotect(buffer: &mut [u8]) -> usize
 }
 
 // The checksum of the bytes: a number of its own and none of the results above.
-#[unsafe(no_mangle)]
-pub extern "C" fn ciu32_checksum(bytes: &[u8]) -> u16
+pub fn ciu32_checksum(bytes: &[u8]) -> u16
     ensures is_their_checksum { result ≡ crc bytes.now }
 {
     checksum_of(bytes)
