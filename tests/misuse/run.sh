@@ -47,7 +47,7 @@ try() {
     (cd "$scratch/crates/misuse" && rt check) >"$scratch/said" 2>&1
     status=$?
     # what is held against the snippet, one line each
-    sed -n -e 's/^[^ ]*src\/lib\.rt:[0-9]*:[0-9]*: error\[/error[/p' -e 's/^note: [^ ]*src\/lib\.rt:[0-9]*:[0-9]*: //p' -e 's/^fn misuse::.* the borrow checker/the borrow checker/p' "$scratch/said" | sort -u >"$scratch/held"
+    sed -n -e 's/^[^ ]*src\/lib\.rt:[0-9]*:[0-9]*: error\[/error[/p' -e 's/^note: [^ ]*src\/lib\.rt:[0-9]*:[0-9]*: //p' -e 's/^fn misuse::.* the borrow checker/the borrow checker/p' "$scratch/said" >"$scratch/held"
 }
 
 failed() {

@@ -234,6 +234,17 @@ junk_read : (m : Meaning) (p k : ℕ) (us os : List ℕ) (falls : Bool) → Soun
 junk_read m p k us os true s h l = page_read m (with_erase_taken p (with_page p us m)) p k us s refl refl h l
 junk_read m p k us os false s h l = page_read m (with_page p us m) p k us s refl refl h l
 
+junk_word_read : (m : Meaning) (i v : ℕ) (us os : List ℕ) (falls : Bool) → Sound m → i < 128 * m.pages →
+    word_answer (cut_written (junk us os falls) (program_word i v) m) i ≡ Ok (get_or us 0 0 % 2 ^ 32)
+junk_word_read m i v us os falls s h =
+    let has : i < length m.words = omega (arith, s.filled) in
+    sym (word_read (with_word i (get_or us 0 0) m) i _ h (sym (get_or-set_same m.words i _ 0 has)))
+
 pub writes_are_read_back : WritesAreReadBack
-writes_are_read_back =
-    record { program = program_read; erase = erase_read; options = options_read; junk_page = junk_read }
+writes_are_read_back = record {
+  program = program_read;
+  erase = erase_read;
+  options = options_read;
+  junk_page = junk_read;
+  junk_word = junk_word_read;
+}

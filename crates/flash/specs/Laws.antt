@@ -56,3 +56,5 @@ pub record WritesAreReadBack : Type 0 where
       option_word_answer (options_leaves m os) k ≡ Ok (slice_index os k % 2 ^ 32)
   pub junk_page : (m : Meaning) (p k : ℕ) (us os : List ℕ) (falls : Bool) → Sound m → p < m.pages → k < 128 →
       word_answer (cut_written (junk us os falls) (erase_page p) m) (128 * p + k) ≡ Ok (slice_index us k % 2 ^ 32)
+  pub junk_word : (m : Meaning) (i v : ℕ) (us os : List ℕ) (falls : Bool) → Sound m → i < 128 * m.pages →
+      word_answer (cut_written (junk us os falls) (program_word i v) m) i ≡ Ok (slice_index us 0 % 2 ^ 32)

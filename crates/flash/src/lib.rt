@@ -3,8 +3,10 @@
 
 mod fault;
 mod interface;
+mod laws;
 mod ranges;
 
 pub use fault::{Asked, Cause, FlashFault};
 pub use interface::Flash;
+pub use laws::laws_hold;
 pub use ranges::{Erased, erase_range};

@@ -1,0 +1,9 @@
+ghost use Rattle.flash.specs.Laws.{CutsAlterOnlyTheirWrite, CutsKeepLimits, RefusalsWriteNothing, WritesAreReadBack};
+
+// The laws of the meaning of a flash. The call does nothing: its contract has them proved.
+pub fn laws_hold()
+    ensures places { CutsAlterOnlyTheirWrite }
+    ensures limits { CutsKeepLimits }
+    ensures refusals { RefusalsWriteNothing }
+    ensures reads { WritesAreReadBack }
+{}
