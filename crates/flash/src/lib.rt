@@ -8,5 +8,5 @@ mod ranges;
 
 pub use fault::{Asked, Cause, FlashFault};
 pub use interface::Flash;
-pub use laws::laws_hold;
+pub use laws::laws_of_writes_hold;
 pub use ranges::{Erased, erase_range};

@@ -1,5 +1,5 @@
 use Rattle.flash.proofs.Lawful.{cuts_keep_limits, cuts_alter_only_their_write, refusals_write_nothing, writes_are_read_back}
-use Rattle.flash.proofs.laws.laws_hold.Goals as goal
+use Rattle.flash.proofs.laws.laws_of_writes_hold.Goals as goal
 
 pub returns : goal.returns
 returns c = record {
