@@ -14,7 +14,8 @@ use Rattle.receiver.specs.declared.task.Task.TheVariants.{Writing, Setting, Chec
 abbrev pub has_data : List ℕ → Bool
 has_data f = nat_lt 0 (length_field f) && nat_le (length_field f) command_most
 
--- the numbers of a task, added up, pass no limit of 32 bits, no more is done of it than there is, and a Write has 1 to 128 words
+-- the numbers of a task, added up, pass no limit of 32 bits, no more is done of it than there is, a Write has 1 to 128 words, and
+-- one of option words keeps to the four
 abbrev pub bounded : Task → Bool
 bounded (Writing first words done) = nat_lt (first + 256) (2 ^ 32) && (nat_le 1 words && nat_le words 128)
 bounded (Setting first words) = nat_le 1 words && nat_le (first + words) 4

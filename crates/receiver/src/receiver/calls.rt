@@ -153,7 +153,7 @@ impl Receiver {
         self.store.store()
     }
 
-    // Becomes busy with a task, or goes on with it. A task whose numbers add up to more than 32 bits is refused.
+    // Becomes busy with a task, or goes on with it. A task that is not bounded is refused.
     pub fn hold(&mut self, task: Task) -> bool
         ensures tells_whether_the_task_is_bounded { result ≡ bounded task }
         ensures is_busy_with_a_bounded_task { self.new.state ≡ (if bounded task then State.Busy task else self.old.state) }

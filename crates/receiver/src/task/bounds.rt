@@ -1,4 +1,4 @@
-// Tasks whose numbers can be added up.
+// Tasks whose numbers can be added up, and whose option words are among the four.
 ghost use Rattle.std.specs.Prelude.{◌≡◌};
 ghost use Rattle.receiver.specs.States.{bounded as is_bounded};
 
