@@ -30,14 +30,14 @@ fn after(register: u16, bytes: &[u8]) -> u16
     ensures fed { result ≡ feeds register bytes.now }
     ensures stretches_join { StretchesJoin register bytes.now result }
 {
+    let (pairs, rest) = bytes.as_chunks::<2>();
     let mut s = register;
-    for i in 0..bytes.len() / 2 {
-        s = two_bytes(s ^ bytes[2 * i] as u16 ^ (bytes[2 * i + 1] as u16) << 8);
+    for [low, high] in pairs {
+        s = two_bytes(s ^ *low as u16 ^ (*high as u16) << 8);
     }
-    if bytes.len() % 2 == 1 {
-        one_byte(s ^ bytes[bytes.len() - 1] as u16)
-    } else {
-        s
+    match rest {
+        [last, ..] => one_byte(s ^ *last as u16),
+        [] => s,
     }
 }
 
