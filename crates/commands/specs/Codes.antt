@@ -2,6 +2,7 @@
 use Rattle.std.specs.Prelude.{ℕ, cond, List, [], ◌∷◌, Some, None, Option, ◌==◌}
 use Rattle.commands.specs.declared.codes.Code.{Code}
 use Rattle.commands.specs.declared.codes.Code.TheVariants.{Done, NotAllowed, FlashRefused, WrongLength, WrongChecksum, NotAligned, OutOfRange, WrongParameter, UnknownCommand}
+use Rattle.commands.specs.declared.codes.NoCode.{NoCode}
 use Rattle.commands.specs.declared.codes.Local.{Local}
 use Rattle.commands.specs.declared.codes.Local.TheVariants.{SmallBuffer, WrongHead, WrongTotal, LongAnswer, DamagedAnswer, UnknownCode}
 
@@ -29,6 +30,10 @@ code_among (c ∷ cs) b = cond (b == code_byte c) (Some c) (code_among cs b)
 -- the code that a byte stands for
 abbrev pub code_of : ℕ → Option Code
 code_of b = code_among codes b
+
+-- a byte that is no code's
+abbrev pub no_code : ℕ → NoCode
+no_code b = record { 0 = b }
 
 -- the number of a local refusal
 abbrev pub local_number : Local → ℕ

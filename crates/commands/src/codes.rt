@@ -1,9 +1,10 @@
 // The codes of answer frames, and the refusals that never reach the wire.
 ghost use Rattle.std.specs.Prelude.{◌≡◌};
-ghost use Rattle.commands.specs.Codes.{code_byte, code_of, local_number};
+ghost use Rattle.std.specs.Option.{ok_or};
+ghost use Rattle.commands.specs.Codes.{code_byte, code_of, local_number, no_code};
 
 // The code of an answer frame.
-#[derive(Clone, Copy)]
+#[derive(Clone, Copy, PartialEq, Eq, Debug)]
 pub enum Code {
     // served
     Done,
@@ -25,12 +26,12 @@ pub enum Code {
     UnknownCommand,
 }
 
-impl Code {
-    // The code's byte in an answer frame.
-    pub fn byte(self) -> u8
-        ensures is_its_byte { result ≡ code_byte self }
-    {
-        match self {
+// The code's byte in an answer frame.
+impl From<Code> for u8 {
+    ghost from_gives = { λ code byte. byte ≡ code_byte code };
+
+    fn from(code: Code) -> u8 {
+        match code {
             Code::Done => 0x90,
             Code::NotAllowed => 0x63,
             Code::FlashRefused => 0x65,
@@ -42,28 +43,36 @@ impl Code {
             Code::UnknownCommand => 0x6D,
         }
     }
+}
 
-    // The code that a byte stands for.
-    pub fn of(byte: u8) -> Option<Code>
-        ensures is_the_code_with_that_byte { result ≡ code_of byte }
-    {
+// A byte that is no code's.
+#[derive(Clone, Copy, PartialEq, Eq, Debug)]
+pub struct NoCode(pub u8);
+
+// The code that a byte stands for.
+impl TryFrom<u8> for Code {
+    type Error = NoCode;
+
+    ghost try_from_gives = { λ byte r. r ≡ ok_or (code_of byte) (no_code byte) };
+
+    fn try_from(byte: u8) -> Result<Code, NoCode> {
         match byte {
-            0x90 => Some(Code::Done),
-            0x63 => Some(Code::NotAllowed),
-            0x65 => Some(Code::FlashRefused),
-            0x67 => Some(Code::WrongLength),
-            0x68 => Some(Code::WrongChecksum),
-            0x69 => Some(Code::NotAligned),
-            0x6A => Some(Code::OutOfRange),
-            0x6B => Some(Code::WrongParameter),
-            0x6D => Some(Code::UnknownCommand),
-            _ => None,
+            0x90 => Ok(Code::Done),
+            0x63 => Ok(Code::NotAllowed),
+            0x65 => Ok(Code::FlashRefused),
+            0x67 => Ok(Code::WrongLength),
+            0x68 => Ok(Code::WrongChecksum),
+            0x69 => Ok(Code::NotAligned),
+            0x6A => Ok(Code::OutOfRange),
+            0x6B => Ok(Code::WrongParameter),
+            0x6D => Ok(Code::UnknownCommand),
+            _ => Err(NoCode(byte)),
         }
     }
 }
 
 // A refusal on the caller's own side: it is no code and never stands in a frame.
-#[derive(Clone, Copy)]
+#[derive(Clone, Copy, PartialEq, Eq, Debug)]
 pub enum Local {
     // the buffer is too small
     SmallBuffer,
@@ -79,12 +88,12 @@ pub enum Local {
     UnknownCode,
 }
 
-impl Local {
-    // The refusal's number, from 1 to 6.
-    pub fn number(self) -> u8
-        ensures is_its_number { result ≡ local_number self }
-    {
-        match self {
+// The refusal's number, from 1 to 6.
+impl From<Local> for u8 {
+    ghost from_gives = { λ local number. number ≡ local_number local };
+
+    fn from(local: Local) -> u8 {
+        match local {
             Local::SmallBuffer => 1,
             Local::WrongHead => 2,
             Local::WrongTotal => 3,
@@ -96,7 +105,7 @@ impl Local {
 }
 
 // Why something was turned down: on this side, or with the code that the part answers.
-#[derive(Clone, Copy)]
+#[derive(Clone, Copy, PartialEq, Eq, Debug)]
 pub enum Refusal {
     Local(Local),
     Code(Code),

@@ -6,6 +6,8 @@ mod codes;
 mod kinds;
 mod rules;
 
-pub use codes::{Code, Local, Refusal};
-pub use kinds::{Kind, Level, SUPPORTED, supported};
+pub use codes::{Code, Local, NoCode, Refusal};
+pub use kinds::{
+    EraseMode, Information, Kind, Level, NoCommand, NoInformation, NoMode, SUPPORTED, supported,
+};
 pub use rules::{aligned, erase_known, erase_within, in_one_page, whole_words, wrong_length};

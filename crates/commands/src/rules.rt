@@ -2,7 +2,7 @@
 ghost use Rattle.std.specs.Prelude.{◌≡◌, ◌%◌, not, ◌==◌};
 ghost use Rattle.commands.specs.Requests.{whole_words as wholeWords, wrong_length, one_page, erase_known, erase_within};
 
-use crate::Kind;
+use crate::{EraseMode, Kind};
 
 // Whether so many bytes are 1 to 128 whole words.
 pub fn whole_words(count: usize) -> bool
@@ -21,8 +21,7 @@ pub fn wrong_length(kind: Kind, count: usize) -> bool
         Kind::Write => count < 4 || !whole_words(count - 4),
         Kind::MemoryCrc => count != 10,
         Kind::Erase => count != 9,
-        Kind::Protect => count != 0,
-        Kind::Unprotect => count != 0,
+        Kind::Protect | Kind::Unprotect => count != 0,
     }
 }
 
@@ -49,11 +48,10 @@ pub fn in_one_page(address: u32, count: u32) -> bool
 pub fn erase_known(mode: u8, index: u32, count: u32) -> bool
     ensures tells_pages_blocks_or_all { result ≡ erase_known mode index count }
 {
-    match mode {
-        0xAA => count != 0,
-        0x55 => count != 0,
-        0x3C => index == 0 && count == 0,
-        _ => false,
+    match EraseMode::try_from(mode) {
+        Ok(EraseMode::Pages | EraseMode::Blocks) => count != 0,
+        Ok(EraseMode::All) => index == 0 && count == 0,
+        Err(_) => false,
     }
 }
 
@@ -62,9 +60,9 @@ pub fn erase_within(pages: u32, mode: u8, index: u32, count: u32) -> bool
     ensures tells_whether_all_pages_exist { result ≡ erase_within pages mode index count }
 {
     let end = index as u64 + count as u64;
-    match mode {
-        0xAA => end <= pages as u64,
-        0x55 => end <= (pages / 8) as u64,
-        _ => true,
+    match EraseMode::try_from(mode) {
+        Ok(EraseMode::Pages) => end <= pages as u64,
+        Ok(EraseMode::Blocks) => end <= (pages / 8) as u64,
+        Ok(EraseMode::All) | Err(_) => true,
     }
 }
