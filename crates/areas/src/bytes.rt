@@ -6,10 +6,5 @@ ghost use Rattle.areas.specs.Words.{bytes_of_word};
 pub fn bytes_of(word: u32) -> [u8; 4]
     ensures has_the_low_byte_first { result ≡ bytes_of_word word }
 {
-    [
-        (word % 256) as u8,
-        (word / 256 % 256) as u8,
-        (word / 65536 % 256) as u8,
-        (word / 16777216 % 256) as u8,
-    ]
+    word.to_le_bytes()
 }
