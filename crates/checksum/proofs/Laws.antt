@@ -2,9 +2,8 @@
 -- and stretches of bytes join.
 -- Assumes nothing.
 use Rattle.std.proofs.Common.{◌≡◌, ℕ, zero, suc, ◌+◌, ◌-◌, ◌*◌, ◌/◌, ◌%◌, ◌^◌, ◌<◌, ◌≤◌, List, [], ◌∷◌, ◌++◌, length, get_or, drop, sym, refl, ap, ◌∙◌, mod-lt, zero-lt-suc, arith}
-use Rattle.std.specs.Simd.{first_chunks}
 use lib.Bits.{bit_xor, xor_mod}
-use Rattle.std.proofs.lemmas.List.{at_drop_more, at_drop_all, get_or-take, get_or-drop}
+use Rattle.std.proofs.lemmas.List.{at_drop_more, at_drop_all}
 use Rattle.checksum.specs.Crc.{step, steps, feed, feeds, StretchesJoin}
 use Rattle.checksum.proofs.Linear.{Linear, sum_linear, shl_linear, shr_linear, compose_linear, same_linear, known}
 
@@ -128,12 +127,3 @@ feeds_pair s xs i h =
     feeds_more s xs (2 * i) (omega arith)
     ∙ feeds_more (feed s (get_or xs (2 * i) 0)) xs (2 * i + 1) (omega arith)
     ∙ ap (λ (k : ℕ). feeds (feed (feed s (get_or xs (2 * i) 0)) (get_or xs (2 * i + 1) 0)) (drop k xs)) next
-
--- the byte k of the pair i
-pub pair_at : (n i : ℕ) (xs : List ℕ) (k : ℕ) → i < n → k < 2 → get_or (get_or (first_chunks 2 n xs) i []) k 0 ≡ get_or xs (2 * i + k) 0
-pair_at zero i xs k h j = absurd (omega arith)
-pair_at (suc n) zero xs k h j = get_or-take 2 xs k 0 j ∙ ap (λ (m : ℕ). get_or xs m 0) (omega arith)
-pair_at (suc n) (suc i) xs k h j =
-    pair_at n i (drop 2 xs) k (omega arith) j
-    ∙ get_or-drop 2 xs (2 * i + k) 0
-    ∙ ap (λ (m : ℕ). get_or xs m 0) (omega arith)

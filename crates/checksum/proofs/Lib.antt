@@ -1,3 +1,4 @@
 pub mod Bounds
 pub mod Linear
 pub mod Laws
+pub mod Chunks

@@ -34,8 +34,8 @@ past_address f bytes n e =
 pub placed_from : (f : List ℕ) (n : ℕ) (c : Command) → Standing (take n (drop 4 f)) c → Placed f c
 placed_from f n (Get information) s = tt
 placed_from f n (Read address count) s = tt
-placed_from f n (Write address at bytes) s =
-    (s.0, past_address f bytes.now n s.1 ∙ ap (λ i. take (length bytes.now) (drop i f)) (sym s.0))
+placed_from f n (Write at payload) s =
+    (s.0, past_address f payload.bytes.now n s.1 ∙ ap (λ i. take (length payload.bytes.now) (drop i f)) (sym s.0))
 placed_from f n (MemoryCrc address count value) s = tt
 placed_from f n (Erase mode index count) s = tt
 placed_from f n Protect s = tt

@@ -2,3 +2,4 @@ pub mod Judged
 pub mod Frames
 pub mod Puts
 pub mod Readback
+pub mod Words

@@ -12,7 +12,7 @@ use Rattle.frame.specs.declared.command.Command.TheVariants.{Get, Read, Write, M
 use Rattle.frame.specs.Flaws.{stopped_by}
 use Rattle.commands.specs.Kinds.{kind_of, forbidden}
 use Rattle.frame.specs.Layout.{Held, opened, command_head, command_most}
-use Rattle.commands.specs.Requests.{Request, get, read, write, memory_crc, erase, protect, unprotect, request_of, WriteLength, wrong_length, misaligned, wrong_parameter, out_of_range}
+use Rattle.commands.specs.Requests.{Request, get, read, write, memory_crc, erase, protect, unprotect, request_of, wrong_length, misaligned, wrong_parameter, out_of_range}
 
 -- a place of the order: where it applies, its code is the answer, and else the next place decides
 abbrev pub stop : {X : Type 0} → Bool → Code → Result X Refusal → Result X Refusal
@@ -46,7 +46,7 @@ judged level P f = stop_frame (forbidden level) (out_of_range P) (opened command
 abbrev pub asked : Command → Request
 asked (Get information) = get information
 asked (Read address count) = read address count
-asked (Write address at bytes) = write address bytes.now
+asked (Write at payload) = write payload.address payload.bytes.now
 asked (MemoryCrc address count value) = memory_crc address count value
 asked (Erase mode index count) = erase mode index count
 asked Protect = protect
@@ -61,34 +61,23 @@ asked_or_refused (Err e) = Err e
 abbrev pub Placed : List ℕ → Command → Type 0
 Placed f (Get information) = Unit {0}
 Placed f (Read address count) = Unit {0}
-Placed f (Write address at bytes) = (at ≡ 8) × (bytes.now ≡ take (length bytes.now) (drop at f))
+Placed f (Write at payload) = (at ≡ 8) × (payload.bytes.now ≡ take (length payload.bytes.now) (drop at f))
 Placed f (MemoryCrc address count value) = Unit {0}
 Placed f (Erase mode index count) = Unit {0}
 Placed f Protect = Unit {0}
 Placed f Unprotect = Unit {0}
 
--- a Write's bytes are 1 to 128 whole words
-abbrev pub Measured : Command → Type 0
-Measured (Get information) = Unit {0}
-Measured (Read address count) = Unit {0}
-Measured (Write address at bytes) = WriteLength (length bytes.now)
-Measured (MemoryCrc address count value) = Unit {0}
-Measured (Erase mode index count) = Unit {0}
-Measured Protect = Unit {0}
-Measured Unprotect = Unit {0}
-
 -- a Write's bytes are those of a data field past the address, and their place in the frame is 8
 abbrev pub Standing : List ℕ → Command → Type 0
 Standing d (Get information) = Unit {0}
 Standing d (Read address count) = Unit {0}
-Standing d (Write address at bytes) = (at ≡ 8) × (bytes.now ≡ drop 4 d)
+Standing d (Write at payload) = (at ≡ 8) × (payload.bytes.now ≡ drop 4 d)
 Standing d (MemoryCrc address count value) = Unit {0}
 Standing d (Erase mode index count) = Unit {0}
 Standing d Protect = Unit {0}
 Standing d Unprotect = Unit {0}
 
--- a command that no place stops, on a part with P pages: its data, its parameters and its range are good
+-- a command that no place stops, on a part with P pages: its parameters and its range are good
 pub record Lawful (P : ℕ) (c : Command) : Type 0 where
-  pub whole : Measured c
   pub known : wrong_parameter (asked c) ≡ false
   pub within : out_of_range P (asked c) ≡ false

@@ -1,6 +1,8 @@
 // A finished frame, told apart as one command.
+use crate::write_data::WriteData;
 
-// A command as it was received. A Write borrows its data from the frame and keeps the place where they begin there.
+// A command as it was received. The data of a Write are borrowed from the frame, and `at` is the
+// place where they begin there.
 #[derive(Clone, Copy)]
 pub enum Command<'a> {
     Get {
@@ -11,9 +13,8 @@ pub enum Command<'a> {
         count: u16,
     },
     Write {
-        address: u32,
         at: usize,
-        bytes: &'a [u8],
+        data: WriteData<'a>,
     },
     MemoryCrc {
         address: u32,

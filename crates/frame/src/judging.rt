@@ -1,6 +1,6 @@
 // Where a frame is stopped, and the command that a frame is.
 ghost use Rattle.std.specs.Prelude.{◌≡◌, true, false, length, IfOk};
-ghost use Rattle.frame.specs.Places.{asked, asked_or_refused, Placed, Standing, Measured, judged, Lawful};
+ghost use Rattle.frame.specs.Places.{asked, asked_or_refused, Placed, Standing, judged, Lawful};
 ghost use Rattle.commands.specs.Requests.{request_of, wrong_length, misaligned, wrong_parameter, out_of_range};
 
 use crate::command::Command;
@@ -8,14 +8,14 @@ use crate::opening::{four_at, open_frame, two_at};
 use crate::write_data::WriteData;
 use areas::{Area, addressable};
 use commands::{
-    Code, Kind, Level, Refusal, aligned, erase_known, erase_within, whole_words, wrong_length,
+    Code, Information, Kind, Level, Refusal, aligned, erase_known, erase_within, whole_words,
+    wrong_length,
 };
 
 // The command of a data field that has the command's length.
 fn command_of<'a>(kind: Kind, bytes: &'a [u8]) -> Command<'a>
     requires { wrong_length kind (length bytes.now) ≡ false }
     ensures asks { asked result ≡ request_of kind bytes.now }
-    ensures whole { Measured result }
     ensures at { Standing bytes.now result }
 {
     match kind {
@@ -27,9 +27,8 @@ fn command_of<'a>(kind: Kind, bytes: &'a [u8]) -> Command<'a>
             count: two_at(bytes, 4),
         },
         Kind::Write => Command::Write {
-            address: four_at(bytes, 0),
             at: 8,
-            bytes: &bytes[4..bytes.len()],
+            data: WriteData::new(four_at(bytes, 0), &bytes[4..]),
         },
         Kind::MemoryCrc => Command::MemoryCrc {
             address: four_at(bytes, 0),
@@ -51,66 +50,36 @@ fn command_misaligned(command: Command<'_>) -> bool
     ensures { result ≡ misaligned (asked command.entry) }
 {
     match command {
-        Command::Read { address, count: _ } => !aligned(address),
-        Command::Write {
-            address,
-            at: _,
-            bytes: _,
-        } => !aligned(address),
-        Command::MemoryCrc {
-            address,
-            count: _,
-            value: _,
-        } => !aligned(address),
+        Command::Read { address, .. } | Command::MemoryCrc { address, .. } => !aligned(address),
+        Command::Write { data, .. } => !aligned(data.address()),
         _ => false,
     }
 }
 
 // Place 7 for a command.
 fn command_unknown(command: Command<'_>) -> bool
-    requires { Measured command }
     ensures { result ≡ wrong_parameter (asked command.entry) }
 {
     match command {
-        Command::Get { information } => information > 4,
-        Command::Read { address: _, count } => !whole_words(count as usize),
-        Command::Write {
-            address,
-            at: _,
-            bytes,
-        } => !WriteData::new(address, bytes).in_one_page(),
-        Command::MemoryCrc {
-            address: _,
-            count,
-            value: _,
-        } => count == 0 || count % 4 != 0,
+        Command::Get { information } => Information::try_from(information).is_err(),
+        Command::Read { count, .. } => !whole_words(count as usize),
+        Command::Write { data, .. } => !data.in_one_page(),
+        Command::MemoryCrc { count, .. } => count == 0 || count % 4 != 0,
         Command::Erase { mode, index, count } => !erase_known(mode, index, count),
-        Command::Protect => false,
-        Command::Unprotect => false,
+        Command::Protect | Command::Unprotect => false,
     }
 }
 
 // Place 8 for a command.
 fn command_beyond(command: Command<'_>, pages: u32) -> bool
-    requires { Measured command }
     ensures { result ≡ out_of_range pages (asked command.entry) }
 {
     match command {
-        Command::Get { information: _ } => false,
         Command::Read { address, count } => !addressable(pages, address, count as u32),
-        Command::Write {
-            address,
-            at: _,
-            bytes,
-        } => !WriteData::new(address, bytes).addressable(pages),
-        Command::MemoryCrc {
-            address,
-            count,
-            value: _,
-        } => !Area::User.holds(pages, address, count),
+        Command::Write { data, .. } => !data.addressable(pages),
+        Command::MemoryCrc { address, count, .. } => !Area::User.holds(pages, address, count),
         Command::Erase { mode, index, count } => !erase_within(pages, mode, index, count),
-        Command::Protect => false,
-        Command::Unprotect => false,
+        Command::Get { .. } | Command::Protect | Command::Unprotect => false,
     }
 }
 
@@ -121,7 +90,7 @@ pub fn judge<'a>(frame: &'a [u8], level: Level, pages: u32) -> Result<Command<'a
     ensures a_command_keeps_the_rules { IfOk result (λ c. Lawful pages c) }
 {
     let content = open_frame(frame, 0x85, 516)?;
-    let Some(kind) = Kind::of(content.tag) else {
+    let Ok(kind) = Kind::try_from(content.tag) else {
         return Err(Refusal::Code(Code::UnknownCommand));
     };
     if level.forbids(kind) {

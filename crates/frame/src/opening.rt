@@ -11,7 +11,7 @@ pub(crate) fn two_at(bytes: &[u8], at: usize) -> u16
     requires { at + 2 ≤ length bytes.now }
     ensures { result ≡ two bytes.now at }
 {
-    bytes[at] as u16 * 256 + bytes[at + 1] as u16
+    u16::from_be_bytes([bytes[at], bytes[at + 1]])
 }
 
 // The number in four bytes, the high byte first.
@@ -19,10 +19,7 @@ pub(crate) fn four_at(bytes: &[u8], at: usize) -> u32
     requires { at + 4 ≤ length bytes.now }
     ensures { result ≡ four bytes.now at }
 {
-    bytes[at] as u32 * 16777216
-        + bytes[at + 1] as u32 * 65536
-        + bytes[at + 2] as u32 * 256
-        + bytes[at + 3] as u32
+    u32::from_be_bytes([bytes[at], bytes[at + 1], bytes[at + 2], bytes[at + 3]])
 }
 
 // How many bytes a frame with so many bytes of data has.

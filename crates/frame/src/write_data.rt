@@ -5,7 +5,7 @@ ghost use Rattle.commands.specs.Requests.{WriteLength};
 mod uses;
 
 // The data of a Write: it borrows its bytes, and they are 1 to 128 whole words. There is no other.
-#[derive(Drop)]
+#[derive(Clone, Copy)]
 pub struct WriteData<'a> {
     address: u32,
     bytes: &'a [u8],

@@ -35,18 +35,14 @@ fn put_all(buffer: &mut [u8], head: u8, tag: u8, first: &[u8], second: &[u8]) ->
     ensures frame { buffer.new ≡ headed (framed head tag (first.now ++ second.now)) buffer.old }
 {
     let count = first.len() + second.len();
-    let start = put(
-        buffer,
-        0,
-        &[head, tag, (count / 256) as u8, (count % 256) as u8],
-    );
+    let [high, low] = (count as u16).to_be_bytes();
+    let start = put(buffer, 0, &[head, tag, high, low]);
     let middle = put(buffer, start, first);
     let end = put(buffer, middle, second);
     if count == 0 {
         return end;
     }
-    let check = check_of(first, second);
-    put(buffer, end, &[(check / 256) as u8, (check % 256) as u8])
+    put(buffer, end, &check_of(first, second).to_be_bytes())
 }
 
 // Puts the frame with that head and tag at the head of the buffer and tells how many bytes it has. Its data are `first` and

@@ -9,36 +9,25 @@ mod tests {
     use frame::{Command, judge};
     use std::test::Fail;
 
-    // 0 for user flash, 1 for the option words, 2 for neither.
-    fn area_number(area: Area) -> u8 {
-        match area {
-            Area::User => 0,
-            Area::Options => 1,
-            Area::Outside => 2,
-        }
-    }
-
     #[test]
     fn addresses(rt: HostRuntime) {
         // pages, address, area, word number
-        let rows: [(u32, u32, u8, u32); 12] = [
-            (16, 0x0800_0000, 0, 0),
-            (16, 0x0800_0003, 0, 0),
-            (16, 0x0800_0204, 0, 129),
-            (16, 0x0800_1FFC, 0, 2047),
-            (16, 0x0800_2000, 2, 0),
-            (0, 0x0800_0000, 2, 0),
-            (1024, 0x0807_FFFF, 0, 131_071),
-            (16, 0x07FF_FFFF, 2, 0),
-            (0, 0x1FFF_F804, 1, 1),
-            (16, 0x1FFF_F80F, 1, 3),
-            (16, 0x1FFF_F810, 2, 0),
-            (16, 0xFFFF_FFFF, 2, 0),
+        let rows: [(u32, u32, Area, u32); 12] = [
+            (16, 0x0800_0000, Area::User, 0),
+            (16, 0x0800_0003, Area::User, 0),
+            (16, 0x0800_0204, Area::User, 129),
+            (16, 0x0800_1FFC, Area::User, 2047),
+            (16, 0x0800_2000, Area::Outside, 0),
+            (0, 0x0800_0000, Area::Outside, 0),
+            (1024, 0x0807_FFFF, Area::User, 131_071),
+            (16, 0x07FF_FFFF, Area::Outside, 0),
+            (0, 0x1FFF_F804, Area::Options, 1),
+            (16, 0x1FFF_F80F, Area::Options, 3),
+            (16, 0x1FFF_F810, Area::Outside, 0),
+            (16, 0xFFFF_FFFF, Area::Outside, 0),
         ];
         for (pages, address, area, number) in rows {
-            let (found, word) = place_of(pages, address);
-            assert_eq!(rt; area_number(found), area);
-            assert_eq!(rt; word, number);
+            assert_eq!(rt; place_of(pages, address), (area, number));
         }
     }
 
@@ -54,10 +43,10 @@ mod tests {
     fn a_write_told_apart(rt: HostRuntime) -> Result<(), Fail> {
         let frame = b"\x85\xF2\x00\x08\x08\x00\x00\x00\x11\x22\x33\x44\x5F\xBC";
         match judge(frame, Level::Open, 16) {
-            Ok(Command::Write { address, at, bytes }) => {
-                assert_eq!(rt; address, 0x0800_0000);
+            Ok(Command::Write { at, data }) => {
+                assert_eq!(rt; data.address(), 0x0800_0000);
                 assert_eq!(rt; at, 8);
-                assert!(rt; bytes == b"\x11\x22\x33\x44".as_slice());
+                assert!(rt; data.bytes() == b"\x11\x22\x33\x44".as_slice());
                 Ok(())
             }
             _ => Err(Fail::new("no write")),

@@ -1,8 +1,9 @@
-use Rattle.std.proofs.Common.{◌≡◌, ◌∙◌, sym, ap, ◌+◌, ◌-◌, ◌*◌, ◌/◌, ◌%◌, ◌^◌, ◌<◌, length, get_or, drop, [], arith, List, ℕ}
+use Rattle.std.proofs.Common.{◌≡◌, ◌∙◌, sym, ap, ◌+◌, ◌-◌, ◌*◌, ◌/◌, ◌%◌, ◌^◌, ◌<◌, length, get_or, [], arith, List, ℕ}
 use Rattle.std.specs.Simd.{first_chunks}
 use Rattle.std.proofs.lemmas.List.{get_or-drop}
 use Rattle.checksum.specs.Crc.{feed, feeds}
-use Rattle.checksum.proofs.Laws.{feed_two, feeds_pair, feeds_last, feeds_none, pair_at, joins}
+use Rattle.checksum.proofs.Laws.{feed_two, feeds_pair, feeds_last, feeds_none, joins}
+use Rattle.checksum.proofs.Chunks.{chunk_at}
 use Rattle.checksum.proofs.after.Goals as goal
 
 pub loop-low-preserved : goal.loop-low-preserved
@@ -18,8 +19,8 @@ loop-low-preserved c =
     let fits : get_or xs (2 * i + 1) 0 < 2 ^ 8 = omega (arith, c.type_inv.bytes (2 * i + 1)) in
     let low : get_or (get_or pairs i []) 0 0 ≡ get_or xs (2 * i) 0 =
         let start : 2 * i + 0 ≡ 2 * i = omega arith in
-        rw chunks (pair_at n i xs 0 inside (omega arith) ∙ ap (λ (k : ℕ). get_or xs k 0) start) in
-    let high : get_or (get_or pairs i []) 1 0 ≡ get_or xs (2 * i + 1) 0 = rw chunks (pair_at n i xs 1 inside (omega arith)) in
+        rw chunks (chunk_at 2 n i xs 0 inside (omega arith) ∙ ap (λ (k : ℕ). get_or xs k 0) start) in
+    let high : get_or (get_or pairs i []) 1 0 ≡ get_or xs (2 * i + 1) 0 = rw chunks (chunk_at 2 n i xs 1 inside (omega arith)) in
     let pair = feeds_pair c.loop-low.s xs i inside in
     let two = feed_two c.loop-low.s (get_or xs (2 * i) 0) (get_or xs (2 * i + 1) 0) fits in
     rw (c.two_bytes-s.ensures, low, high, two) (sym pair ∙ c.loop-low.invariant)

@@ -1,5 +1,6 @@
 // The making of a Write's data and the questions to it. None of them tests the length again.
-ghost use Rattle.std.specs.Prelude.{◌≡◌, ℕ, ◌+◌, ◌*◌, ◌/◌, ◌<◌, ◌≤◌, length, slice_index};
+ghost use Rattle.std.specs.Prelude.{◌≡◌, ℕ, ◌+◌, ◌*◌, ◌/◌, ◌<◌, ◌≤◌, [], length, slice_index, slice_index_or};
+ghost use Rattle.std.specs.Int.{w32, from_le_bytes};
 ghost use Rattle.areas.specs.Areas.{wholly};
 ghost use Rattle.commands.specs.Fields.{four};
 ghost use Rattle.commands.specs.Requests.{WriteLength, one_page, stored_bytes};
@@ -31,6 +32,14 @@ impl<'a> WriteData<'a> {
 }
 
 impl<'a> WriteData<'a> {
+    // The address of the first byte.
+    pub fn address(&self) -> u32
+        ensures is_its_address { result ≡ self.now.address }
+    {
+        let WriteData { address, .. } = *self;
+        address
+    }
+
     // How many bytes there are.
     fn size(&self) -> u32
         ensures { result ≡ length self.now.bytes.now }
@@ -56,28 +65,32 @@ impl<'a> WriteData<'a> {
     pub fn bytes(&self) -> &'a [u8]
         ensures are_its_bytes { result.now ≡ self.now.bytes.now }
     {
-        &self.bytes[0..]
+        &self.bytes[..]
+    }
+
+    // The bytes of each word.
+    fn words(&self) -> &'a [[u8; 4]]
+        ensures each { (k : ℕ) → k < length result.now → from_le_bytes w32 (slice_index_or result.now k []) ≡ word_at self.now.bytes.now (4 * k) }
+        ensures count { length result.now ≡ length self.now.bytes.now / 4 }
+    {
+        self.bytes.as_chunks::<4>().0
     }
 
     // How many words there are.
     pub fn count(&self) -> u8
         ensures is_the_number_of_words { result ≡ length self.now.bytes.now / 4 }
     {
-        (self.bytes.len() / 4) as u8
+        self.words().len() as u8
     }
 
     // The word of that number, the low byte first; past the last one, 0.
     pub fn word(&self, i: u8) -> u32
         ensures is_the_word_of_that_number { result ≡ word_at self.now.bytes.now (4 * i) }
     {
-        let b = 4 * i as usize;
-        if b >= self.bytes.len() {
-            return 0;
+        match self.words().get(i as usize) {
+            Some(word) => u32::from_le_bytes(*word),
+            None => 0,
         }
-        self.bytes[b] as u32
-            + self.bytes[b + 1] as u32 * 256
-            + self.bytes[b + 2] as u32 * 65536
-            + self.bytes[b + 3] as u32 * 16777216
     }
 
     // Puts the words at the head of `out`, the low byte of each first, and tells how many there are.
@@ -86,14 +99,10 @@ impl<'a> WriteData<'a> {
         ensures puts_each_word { (k : ℕ) → k < result → slice_index out.new k ≡ word_at self.now.bytes.now (4 * k) }
         ensures leaves_the_rest { (k : ℕ) → result ≤ k → slice_index out.new k ≡ slice_index out.old k }
     {
-        let count = self.bytes.len() / 4;
-        for i in 0..count {
-            let b = 4 * i;
-            out[i] = self.bytes[b] as u32
-                + self.bytes[b + 1] as u32 * 256
-                + self.bytes[b + 2] as u32 * 65536
-                + self.bytes[b + 3] as u32 * 16777216;
+        let words = self.words();
+        for (i, word) in words.iter().enumerate() {
+            out[i] = u32::from_le_bytes(*word);
         }
-        count
+        words.len()
     }
 }

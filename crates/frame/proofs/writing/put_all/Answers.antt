@@ -1,4 +1,4 @@
-use Rattle.std.proofs.Common.{◌≡◌, ℕ, ◌+◌, ◌/◌, ◌%◌, List, [], ◌∷◌, ◌++◌, length, sym, refl, ap, ◌∙◌, arith}
+use Rattle.std.proofs.Common.{◌≡◌, ℕ, ◌+◌, ◌/◌, ◌%◌, List, [], ◌∷◌, ◌++◌, length, get_or, sym, refl, ap, ◌∙◌, arith}
 use Rattle.std.proofs.lemmas.List.{length-append, append-nil}
 use Rattle.std.proofs.lemmas.Bool.Decides.{nat_tests}
 use Rattle.frame.specs.Layout.{check_bytes, headed}
@@ -12,7 +12,9 @@ returns-then-count-eq0 c =
     let n : ℕ = length first + length second in
     let start : List ℕ = c.args.head ∷ c.args.tag ∷ n / 256 ∷ n % 256 ∷ [] in
     let old = c.args.buffer.now in
-    let e1 = c.put-start.ensures.appended [] old refl refl in
+    let high : get_or c.to_be_bytes.result 0 0 ≡ n / 256 = ap (λ bs. get_or bs 0 0) c.to_be_bytes.ensures ∙ omega arith in
+    let low : get_or c.to_be_bytes.result 1 0 ≡ n % 256 = ap (λ bs. get_or bs 1 0) c.to_be_bytes.ensures ∙ omega arith in
+    let e1 = c.put-start.ensures.appended [] old refl refl ∙ (λ j. headed (c.args.head ∷ c.args.tag ∷ high j ∷ low j ∷ []) old) in
     let e2 = c.put-middle.ensures.appended start old (sym c.put-start.ensures.end) e1 in
     let e3 = c.put-end.ensures.appended (start ++ first) old (simp length-append (omega arith)) e2 in
     let none : [] ≡ check_bytes (first ++ second) = let l = length-append first second in grind (arith, nat_tests) in
@@ -28,13 +30,15 @@ returns c =
     let n : ℕ = length first + length second in
     let start : List ℕ = c.args.head ∷ c.args.tag ∷ n / 256 ∷ n % 256 ∷ [] in
     let old = c.args.buffer.now in
-    let e1 = c.put-start.ensures.appended [] old refl refl in
+    let high : get_or c.to_be_bytes.result 0 0 ≡ n / 256 = ap (λ bs. get_or bs 0 0) c.to_be_bytes.ensures ∙ omega arith in
+    let low : get_or c.to_be_bytes.result 1 0 ≡ n % 256 = ap (λ bs. get_or bs 1 0) c.to_be_bytes.ensures ∙ omega arith in
+    let e1 = c.put-start.ensures.appended [] old refl refl ∙ (λ j. headed (c.args.head ∷ c.args.tag ∷ high j ∷ low j ∷ []) old) in
     let e2 = c.put-middle.ensures.appended start old (sym c.put-start.ensures.end) e1 in
     let e3 = c.put-end.ensures.appended (start ++ first) old (simp length-append (omega arith)) e2 in
-    let check = c.check_of-check.result in
     let e4 = c.put.ensures.appended ((start ++ first) ++ second) old (simp length-append (omega arith)) e3 in
-    let some : (check / 256 ∷ check % 256 ∷ []) ≡ check_bytes (first ++ second) = let l = length-append first second in let k = c.check_of-check.ensures in grind (arith, nat_tests) in
+    let sum = c.to_be_bytes-2.result in
+    let some : sum ≡ check_bytes (first ++ second) = let l = length-append first second in let k = c.check_of.ensures in let b = c.to_be_bytes-2.ensures in grind (arith, nat_tests) in
     record {
       count = grind (arith, nat_tests);
-      frame = e4 ∙ ap (λ f. headed f old) (whole_frame c.args.head c.args.tag n first second (check / 256 ∷ check % 256 ∷ []) refl (omega arith) some);
+      frame = e4 ∙ ap (λ f. headed f old) (whole_frame c.args.head c.args.tag n first second sum refl (omega arith) some);
     }
