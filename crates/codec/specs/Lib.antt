@@ -1,4 +1,3 @@
-pub mod Numbers
 pub mod Reading
 pub mod Verdict
 pub mod Writing

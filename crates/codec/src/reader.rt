@@ -11,7 +11,7 @@ fn take_apart<'a>(input: &'a [u8]) -> Result<Answer<'a>, Local>
     ensures { answered result ≡ reading input.now }
 {
     let content = open_frame(input, 0xB3, 512)?;
-    let Some(code) = Code::of(content.tag) else {
+    let Ok(code) = Code::try_from(content.tag) else {
         return Err(Local::UnknownCode);
     };
     Ok(Answer {

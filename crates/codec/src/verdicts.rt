@@ -26,7 +26,7 @@ fn code_of(refusal: Refusal) -> Result<Code, Local>
 pub fn verdict(frame: &[u8], level: u32, pages: u32) -> Result<Code, Local>
     ensures is_the_code_of_the_first_stop { result ≡ verdict_of level pages frame.now }
 {
-    match judge(frame, Level::of(level), counted(pages)) {
+    match judge(frame, Level::from(level), counted(pages)) {
         Ok(_) => Ok(Code::Done),
         Err(refusal) => code_of(refusal),
     }

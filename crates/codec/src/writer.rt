@@ -7,7 +7,9 @@ ghost use Rattle.commands.specs.Requests.{request_data, write};
 ghost use Rattle.codec.specs.Writing.{asking, frame_for, unstopped, demanded, written_within, count_written, left_by, written_count, written_buffer, WrittenFramesPass, PassingFramesAreWritten, FramesFitTheBuffer};
 
 use crate::request::Request;
-use commands::{Code, Kind, Local, Refusal, aligned, erase_known, in_one_page, whole_words};
+use commands::{
+    Code, Information, Kind, Local, Refusal, aligned, erase_known, in_one_page, whole_words,
+};
 use frame::put_frame;
 
 // The code for a test that is to hold.
@@ -36,17 +38,16 @@ fn check(request: Request<'_>) -> Result<(), Refusal>
     ensures { result ≡ unstopped (asking request.entry) tt }
 {
     match request {
-        Request::Get { information } => unless(information <= 4, Code::WrongParameter),
+        Request::Get { information } => unless(
+            Information::try_from(information).is_ok(),
+            Code::WrongParameter,
+        ),
         Request::Read { address, count } => {
             unless(aligned(address), Code::NotAligned)?;
             unless(whole_words(count as usize), Code::WrongParameter)
         }
         Request::Write { address, bytes } => check_write(address, bytes),
-        Request::MemoryCrc {
-            address,
-            count,
-            value: _,
-        } => {
+        Request::MemoryCrc { address, count, .. } => {
             unless(aligned(address), Code::NotAligned)?;
             unless(count != 0 && count % 4 == 0, Code::WrongParameter)
         }
@@ -54,8 +55,7 @@ fn check(request: Request<'_>) -> Result<(), Refusal>
             erase_known(mode, index, count),
             Code::WrongParameter,
         ),
-        Request::Protect => Ok(()),
-        Request::Unprotect => Ok(()),
+        Request::Protect | Request::Unprotect => Ok(()),
     }
 }
 
@@ -65,10 +65,7 @@ fn put(buffer: &mut [u8], kind: Kind, first: &[u8], second: &[u8]) -> Result<usi
     ensures count { result ≡ Ok (length (framed 0x85 (kind_byte kind) (first.now ++ second.now))) }
     ensures frame { buffer.new ≡ headed (framed 0x85 (kind_byte kind) (first.now ++ second.now)) buffer.old }
 {
-    match put_frame(buffer, 0x85, kind.byte(), first, second) {
-        Some(count) => Ok(count),
-        None => Err(Refusal::Local(Local::SmallBuffer)),
-    }
+    put_frame(buffer, 0x85, u8::from(kind), first, second).ok_or(Refusal::Local(Local::SmallBuffer))
 }
 
 // The data field of a Memory CRC behind the address.
@@ -141,10 +138,8 @@ fn write_checked(request: Request<'_>, buffer: &mut [u8]) -> Result<usize, Refus
     if buffer.len() < 522 {
         return Err(Refusal::Local(Local::SmallBuffer));
     }
-    match check(request) {
-        Ok(()) => put_request(request, buffer),
-        Err(refusal) => Err(refusal),
-    }
+    check(request)?;
+    put_request(request, buffer)
 }
 
 // Puts the request's frame at the head of the buffer and tells how many bytes it has.
