@@ -1,5 +1,6 @@
 -- The host's writer: which frame a request becomes, and which requests are refused.
 use Rattle.std.specs.Prelude.{◌≡◌, ℕ, ◌≤◌, Bool, false, cond, List, length, Ok, Err, Result, nat_lt}
+use Rattle.std.specs.Borrow.{Bor}
 use Rattle.commands.specs.declared.codes.Code.{Code}
 use Rattle.commands.specs.declared.codes.Code.TheVariants.{WrongLength}
 use Rattle.commands.specs.declared.codes.Local.TheVariants.{SmallBuffer}
@@ -13,15 +14,19 @@ use Rattle.commands.specs.Requests.{Request as Asked, get, read, write, memory_c
 use Rattle.codec.specs.declared.request.Request.{Request}
 use Rattle.codec.specs.declared.request.Request.TheVariants.{Get, Read, Write, MemoryCrc, Erase, Protect, Unprotect}
 
--- what a request asks for, without the reference
-abbrev pub asking : Request → Asked
-asking (Get information) = get information
-asking (Read address count) = read address count
-asking (Write address bytes) = write address bytes.now
-asking (MemoryCrc address count value) = memory_crc address count value
-asking (Erase mode index count) = erase mode index count
-asking Protect = protect
-asking Unprotect = unprotect
+-- what a request asks for, by what bytes there are in what holds them
+abbrev pub asked_by : {B : Type 0} → (B → List ℕ) → Request B → Asked
+asked_by view (Get information) = get information
+asked_by view (Read address count) = read address count
+asked_by view (Write address bytes) = write address (view bytes)
+asked_by view (MemoryCrc address count value) = memory_crc address count value
+asked_by view (Erase mode index count) = erase mode index count
+asked_by view Protect = protect
+asked_by view Unprotect = unprotect
+
+-- what a request with lent bytes asks for
+abbrev pub asking : Request (Bor (List ℕ)) → Asked
+asking = asked_by (λ bytes. bytes.now)
 
 -- the frame of a request
 abbrev pub frame_for : Asked → List ℕ

@@ -1,9 +1,11 @@
 // What a host asks of a part.
+mod lending;
 mod makings;
 
-// A request. The data of a Write are the bytes in the order in which the flash keeps them.
-#[derive(Clone, Copy)]
-pub enum Request<'a> {
+// A request, over whatever holds the bytes of a Write: `&[u8]` where they are lent, `Vec<u8>` where the request owns them. They
+// stand in the order in which the flash keeps them.
+#[derive(Clone, Copy, Drop)]
+pub enum Request<B> {
     Get {
         information: u8,
     },
@@ -13,7 +15,7 @@ pub enum Request<'a> {
     },
     Write {
         address: u32,
-        bytes: &'a [u8],
+        bytes: B,
     },
     MemoryCrc {
         address: u32,

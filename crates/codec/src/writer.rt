@@ -34,7 +34,7 @@ fn check_write(address: u32, bytes: &[u8]) -> Result<(), Refusal>
 }
 
 // The first of places 5 to 7 that stops a request: length, alignment, parameter.
-fn check(request: Request<'_>) -> Result<(), Refusal>
+fn check(request: Request<&[u8]>) -> Result<(), Refusal>
     ensures { result ≡ unstopped (asking request.entry) tt }
 {
     match request {
@@ -86,7 +86,7 @@ fn erase_start(mode: u8, index: u32) -> [u8; 5]
 }
 
 // Puts a request's frame at the head of a buffer that holds it.
-fn put_request(request: Request<'_>, buffer: &mut [u8]) -> Result<usize, Refusal>
+fn put_request(request: Request<&[u8]>, buffer: &mut [u8]) -> Result<usize, Refusal>
     requires { (length (request_data (asking request)) ≤ 516) × (522 ≤ length buffer.old) }
     ensures count { result ≡ Ok (length (frame_for (asking request.entry))) }
     ensures frame { buffer.new ≡ headed (frame_for (asking request.entry)) buffer.old }
@@ -131,7 +131,7 @@ fn put_request(request: Request<'_>, buffer: &mut [u8]) -> Result<usize, Refusal
 }
 
 // Puts a request's frame at the head of the buffer, where the buffer is large enough and no place stops the request.
-fn write_checked(request: Request<'_>, buffer: &mut [u8]) -> Result<usize, Refusal>
+fn write_checked(request: Request<&[u8]>, buffer: &mut [u8]) -> Result<usize, Refusal>
     ensures count { result ≡ count_written (written_within (length buffer.old) (asking request.entry)) }
     ensures frame { buffer.new ≡ left_by (written_within (length buffer.old) (asking request.entry)) buffer.old }
 {
@@ -143,7 +143,7 @@ fn write_checked(request: Request<'_>, buffer: &mut [u8]) -> Result<usize, Refus
 }
 
 // Puts the request's frame at the head of the buffer and tells how many bytes it has.
-pub fn write_request(request: Request<'_>, buffer: &mut [u8]) -> Result<usize, Refusal>
+pub fn write_request(request: Request<&[u8]>, buffer: &mut [u8]) -> Result<usize, Refusal>
     ensures tells_how_many_bytes_or_the_first_refusal { result ≡ written_count (length buffer.old) (asking request.entry) }
     ensures writes_the_frame_and_no_more { buffer.new ≡ written_buffer buffer.old (asking request.entry) }
     ensures written_frames_pass { WrittenFramesPass }

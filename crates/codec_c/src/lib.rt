@@ -23,7 +23,7 @@ fn number(refusal: Refusal) -> usize
 }
 
 // Writes a request's frame, with the result as one number.
-fn export(request: Request<'_>, buffer: &mut [u8]) -> usize
+fn export(request: Request<&[u8]>, buffer: &mut [u8]) -> usize
     ensures count { result ≡ count_number (written_count (length buffer.old) (asking request.entry)) }
     ensures frame { buffer.new ≡ written_buffer buffer.old (asking request.entry) }
 {
