@@ -13,8 +13,3 @@ lock_word = 0
 
 abbrev pub unlock_word : ℕ
 unlock_word = 0xAA
-
--- the level as the byte that Get tells
-abbrev pub level_byte : Level → ℕ
-level_byte Open = 0
-level_byte Locked = 1

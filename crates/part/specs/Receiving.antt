@@ -18,7 +18,7 @@ use Rattle.areas.specs.Words.{bytes_of_words}
 use Rattle.flash.specs.Meaning.{Meaning}
 use Rattle.memory.specs.Portions.{area_words}
 use Rattle.part.specs.declared.identity.Identity.{Identity}
-use Rattle.part.specs.Levels.{level_byte}
+use Rattle.commands.specs.Kinds.{level_byte}
 use Rattle.part.specs.Parts.{Wire, writing, setting, checking, erasing, protecting, Hand, none, unprotecting, doing}
 
 -- the answer frame of a code, without data

@@ -4,6 +4,7 @@ use Rattle.areas.specs.Words.{bytes_of_words}
 use Rattle.flash.specs.Meaning.{Meaning}
 use Rattle.commands.specs.declared.codes.Code.TheVariants.{WrongLength}
 use Rattle.commands.specs.declared.kinds.Level.{Level}
+use Rattle.commands.specs.Kinds.{information_number}
 use Rattle.frame.specs.Layout.{answer_head}
 use Rattle.frame.specs.Places.{judged}
 use Rattle.memory.specs.Portions.{words_at}
@@ -42,6 +43,6 @@ heard_as i level m r Whole = answered i level m (judged level m.pages (held r.st
 abbrev pub ordered_as : Identity → Level → Meaning → List ℕ → Order → Heard
 ordered_as i level m f Ignore = waiting []
 ordered_as i level m f (Refuse code) = answering (code_answer code)
-ordered_as i level m f (Tell n) = answering (data_answer (information i level m.pages n))
+ordered_as i level m f (Tell what) = answering (data_answer (information i level m.pages (information_number what)))
 ordered_as i level m f (Show area first count) = answering (data_answer (bytes_of_words (words_at m area first count)))
 ordered_as i level m f (Take task) = taking (hand_for task f)

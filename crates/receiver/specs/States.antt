@@ -101,6 +101,6 @@ task_in (Busy task) = Some task
 abbrev pub Modest : Order → Type 0
 Modest Ignore = Unit {0}
 Modest (Refuse code) = Unit {0}
-Modest (Tell n) = Unit {0}
+Modest (Tell what) = Unit {0}
 Modest (Show area first count) = count ≤ 128
 Modest (Take task) = (bounded task ≡ true) × (ticket_for task ≡ false)

@@ -4,7 +4,7 @@ ghost use Rattle.areas.specs.Areas.{wholly, place_of};
 ghost use Rattle.flash.specs.Meaning.{Meaning};
 ghost use Rattle.commands.specs.declared.kinds.Level.{Level};
 ghost use Rattle.frame.specs.Places.{judged, asked, Placed, Lawful};
-ghost use Rattle.commands.specs.Requests.{erase_within, stored_bytes, WriteLength};
+ghost use Rattle.commands.specs.Requests.{erase_within, stored_bytes};
 ghost use Rattle.part.specs.declared.identity.Identity.{Identity};
 ghost use Rattle.part.specs.Receiving.{answered, served, taking, write_task, erase_task};
 ghost use Rattle.receiver.specs.Receivers.{ordered_as};
@@ -13,8 +13,8 @@ ghost use Rattle.receiver.specs.States.{hand_for, bounded, ticket_for, Modest};
 use crate::state::Order;
 use crate::task::Task;
 use areas::{Area, place_of};
-use commands::{Level, Refusal};
-use frame::{Command, judge};
+use commands::{EraseMode, Information, Level, Refusal};
+use frame::{Command, WriteData, judge};
 
 // The pages of an Erase that lie in the flash, with none of them done.
 fn erase_task(pages: u32, mode: u8, index: u32, count: u32) -> Task
@@ -22,10 +22,10 @@ fn erase_task(pages: u32, mode: u8, index: u32, count: u32) -> Task
     ensures erases { (s : List ℕ) → hand_for result s ≡ erase_task pages mode index count }
     ensures modest { (bounded result ≡ true) × (ticket_for result ≡ false) }
 {
-    let (first, count) = match mode {
-        0xAA => (index, count),
-        0x55 => (8 * index, 8 * count),
-        _ => (0, pages),
+    let (first, count) = match EraseMode::try_from(mode) {
+        Ok(EraseMode::Pages) => (index, count),
+        Ok(EraseMode::Blocks) => (8 * index, 8 * count),
+        Ok(EraseMode::All) | Err(_) => (0, pages),
     };
     Task::Erasing {
         first,
@@ -34,15 +34,14 @@ fn erase_task(pages: u32, mode: u8, index: u32, count: u32) -> Task
     }
 }
 
-// A Write of so many bytes, with none of them done. Its bytes stand in the frame behind the address.
-fn write_order(pages: u32, address: u32, bytes: &[u8]) -> Order
-    requires whole { WriteLength (length bytes.now) }
-    requires within { wholly pages address (length bytes.now) ≡ true }
-    ensures writes { (i : Identity) (level : Level) (m : Meaning) (s : List ℕ) → stored_bytes s (length bytes.now / 4) ≡ bytes.now → ordered_as i level m s result ≡ taking (write_task (place_of pages address).0 (place_of pages address).1 bytes.now) }
+// A Write of such data, with none of them done. They stand in the frame behind the address.
+fn write_order(pages: u32, written: WriteData<'_>) -> Order
+    requires { wholly pages written.address (length written.bytes.now) ≡ true }
+    ensures writes { (i : Identity) (level : Level) (m : Meaning) (s : List ℕ) → stored_bytes s (length written.entry.bytes.now / 4) ≡ written.entry.bytes.now → ordered_as i level m s result ≡ taking (write_task (place_of pages written.entry.address).0 (place_of pages written.entry.address).1 written.entry.bytes.now) }
     ensures modest { Modest result }
 {
-    let words = (bytes.len() / 4) as u8;
-    match place_of(pages, address) {
+    let words = written.count();
+    match place_of(pages, written.address()) {
         (Area::User, first) => Order::Take(Task::Writing {
             first,
             words,
@@ -60,7 +59,7 @@ fn order(command: Command<'_>, pages: u32) -> Order
     ensures modest { Modest result }
 {
     match command {
-        Command::Get { information } => Order::Tell(information),
+        Command::Get { information } => Order::Tell(Information::try_from(information).unwrap()),
         Command::Read { address, count } => {
             let (area, first) = place_of(pages, address);
             Order::Show {
@@ -69,11 +68,7 @@ fn order(command: Command<'_>, pages: u32) -> Order
                 count: count as u32 / 4,
             }
         }
-        Command::Write {
-            address,
-            at: _,
-            bytes,
-        } => write_order(pages, address, bytes),
+        Command::Write { data, .. } => write_order(pages, data),
         Command::MemoryCrc {
             address,
             count,

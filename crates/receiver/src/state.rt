@@ -1,7 +1,7 @@
 // Where a receiver stands, and what comes of a byte and of a frame.
 use crate::task::Task;
 use areas::Area;
-use commands::Code;
+use commands::{Code, Information};
 
 // Where a receiver stands.
 #[derive(Clone, Copy)]
@@ -39,8 +39,8 @@ pub enum Order {
     Ignore,
     // the answer of a refusal
     Refuse(Code),
-    // what Get tells under that number
-    Tell(u8),
+    // what Get tells
+    Tell(Information),
     // so many words of an area, from a number on
     Show { area: Area, first: u32, count: u32 },
     // a command that takes work calls

@@ -2,17 +2,22 @@ use Rattle.std.proofs.Common.{ℕ, ◌/◌, length, take, drop, sym, ap, ◌∙�
 use Rattle.areas.specs.declared.map.Area.{Area}
 use Rattle.areas.specs.Areas.{place_of}
 use Rattle.areas.specs.Words.{bytes_of_words}
-use Rattle.frame.specs.Places.{asked, Placed, Measured}
+use Rattle.frame.specs.Places.{asked, Placed}
 use Rattle.memory.specs.Portions.{words_at}
 use Rattle.part.specs.Parts.{doing, checking}
-use Rattle.part.specs.Receiving.{served, answering, data_answer, taking, write_task, erase_task}
+use Rattle.part.specs.Receiving.{served, answering, data_answer, taking, write_task, erase_task, information}
+use Rattle.commands.specs.Kinds.{informations, information_of, no_information}
+use Rattle.commands.proofs.Conversions.{some_where_ok, number_told}
 use Rattle.receiver.proofs.Stored.{stored_same}
 use Rattle.receiver.proofs.deciding.order.Goals as goal
 
 pub returns-in-Get : goal.returns-in-Get
 unfolding served
 returns-in-Get c = record {
-  serves = λ i level m f s p q t. ap (λ x. served i level m (asked x)) c.in-Get.is;
+  serves = λ i level m f s p q t.
+      let known = some_where_ok (information_of c.in-Get.information) (no_information c.in-Get.information) c.unwrap.result (sym c.unwrap.ensures ∙ c.try_from.ensures) in
+      ap (λ x. served i level m (asked x)) c.in-Get.is
+      ∙ ap (λ (n : ℕ). answering (data_answer (information i level m.pages n))) (number_told informations c.in-Get.information c.unwrap.result known);
   modest = search rules;
 }
 
@@ -31,10 +36,11 @@ unfolding served
 returns-in-Write c = record {
   serves = λ i level m f s p q t.
       let stands = subst (Placed f) c.in-Write.is q in
-      let bytes = c.in-Write.bytes.now in
+      let payload = c.in-Write.«data» in
+      let bytes = payload.bytes.now in
       ap (λ x. served i level m (asked x)) c.in-Write.is
-      ∙ ap (λ (P : ℕ). taking (write_task (place_of P c.in-Write.address).0 (place_of P c.in-Write.address).1 bytes)) p
-      ∙ sym (c.write_order.ensures.writes i level m s (stored_same f s bytes (subst Measured c.in-Write.is c.requires.whole)
+      ∙ ap (λ (P : ℕ). taking (write_task (place_of P payload.address).0 (place_of P payload.address).1 bytes)) p
+      ∙ sym (c.write_order.ensures.writes i level m s (stored_same f s bytes payload.whole
       (stands.1 ∙ ap (λ (k : ℕ). take (length bytes) (drop k f)) stands.0) t));
   modest = search rules;
 }
