@@ -1,7 +1,7 @@
 -- Words as bytes, and stretches of words.
 use Rattle.std.proofs.Common.{◌≡◌, ℕ, ◌+◌, ◌*◌, ◌<◌, ◌≤◌, List, [], ◌∷◌, ◌++◌, length, get_or, take, drop, sym, refl, ap, ◌∙◌, arith}
-use Rattle.std.proofs.lemmas.List.{append_assoc, append-nil, length-append, length-drop, get_or-drop, take_more, take_all, get_or_past}
-use Rattle.areas.specs.Words.{word_at, bytes_of_word, bytes_of_words}
+use Rattle.std.proofs.lemmas.List.{append_assoc, append-nil, length-append, length-drop, get_or-drop, take_more, take_all}
+use Rattle.areas.specs.Words.{bytes_of_word, bytes_of_words}
 
 pub bytes_append : (a b : List ℕ) → bytes_of_words (a ++ b) ≡ bytes_of_words a ++ bytes_of_words b
 bytes_append [] b = refl
@@ -23,8 +23,3 @@ stretch_more xs first i h =
 pub stretch_end : (xs : List ℕ) (first i n : ℕ) → length xs ≤ first + i → i ≤ n → take i (drop first xs) ≡ take n (drop first xs)
 stretch_end xs first i n h l =
     take_all i (drop first xs) (omega (arith, length-drop first xs)) ∙ sym (take_all n (drop first xs) (omega (arith, length-drop first xs)))
-
--- past the last byte there is no word
-pub word_past : (bs : List ℕ) (i : ℕ) → length bs ≤ i → word_at bs i ≡ 0
-word_past bs i h =
-    omega (arith, get_or_past bs i 0 h, get_or_past bs (i + 1) 0 (omega arith), get_or_past bs (i + 2) 0 (omega arith), get_or_past bs (i + 3) 0 (omega arith))
