@@ -1,6 +1,7 @@
 -- A list with another written over it from a place on. No lemma asks that the place lies within the list.
-use Rattle.std.proofs.Common.{◌≡◌, ℕ, zero, suc, ◌+◌, ◌<◌, ◌≤◌, List, [], ◌∷◌, ◌++◌, length, get_or, drop, set, replicate, refl, ap, suc-add, zero-add, arith}
-use Rattle.std.proofs.lemmas.List.{replicate_more, length-replicate}
+use Rattle.std.proofs.Common.{◌≡◌, ℕ, zero, suc, ◌+◌, ◌<◌, ◌≤◌, List, [], ◌∷◌, ◌++◌, length, get_or, take, drop, set, replicate, sym, refl, ap, ◌∙◌, suc-add, zero-add, arith}
+use Rattle.std.proofs.lemmas.List.{length-replicate, length-drop, length-take-le}
+use borrow.Rule.Slice.PartMut.{put_mid}
 use Rattle.flash.specs.Lists.{overwritten}
 
 module _ {A : Type 0} where
@@ -19,14 +20,24 @@ module _ {A : Type 0} where
   overwritten_push (suc n) ws [] y = refl
   overwritten_push (suc n) ws (x ∷ xs) y = rw suc-add (ap (λ ys. x ∷ ys) (overwritten_push n ws xs y))
 
-  -- the step of a loop that writes y from the place n on
-  pub fill_step : (n i : ℕ) (xs ys : List A) (y : A) → ys ≡ overwritten n (replicate i y) xs →
-      set ys (n + i) y ≡ overwritten n (replicate (i + 1) y) xs
-  fill_step n i xs ys y h =
-      let e = overwritten_push n (replicate i y) xs y in
-      let l = length-replicate i y in
-      let r = replicate_more i y in
-      cc
+  -- ws put in the place of as many elements that are there
+  put_overwritten : (n : ℕ) (ws xs : List A) → n + length ws ≤ length xs →
+      put_mid n (length ws) xs ws ≡ overwritten n ws xs
+  put_overwritten zero [] xs h = refl
+  put_overwritten zero (w ∷ ws) [] h = absurd (omega arith)
+  put_overwritten zero (w ∷ ws) (x ∷ xs) h = ap (λ ys. w ∷ ys) (put_overwritten zero ws xs (omega arith))
+  put_overwritten (suc n) ws [] h = absurd (omega arith)
+  put_overwritten (suc n) ws (x ∷ xs) h = ap (λ ys. x ∷ ys) (put_overwritten n ws xs (omega arith))
+
+  -- a part of a list, m elements long, that was filled with y
+  pub put_filled : (n k m : ℕ) (xs ys : List A) (y : A) → k ≡ m → ys ≡ replicate (length (take k (drop n xs))) y →
+      n + m ≤ length xs → put_mid n k xs ys ≡ overwritten n (replicate m y) xs
+  put_filled n k m xs ys y e f h =
+      let has : m ≤ length (drop n xs) = omega (arith, length-drop n xs) in
+      let long : length (take k (drop n xs)) ≡ m = ap (λ i. length (take i (drop n xs))) e ∙ length-take-le m (drop n xs) has in
+      let made = length-replicate m y in
+      (λ j. put_mid n ((e ∙ sym made) j) xs ((f ∙ ap (λ i. replicate i y) long) j))
+      ∙ put_overwritten n (replicate m y) xs (omega arith)
 
   pub length_overwritten : (n : ℕ) (ws xs : List A) → length (overwritten n ws xs) ≡ length xs
   length_overwritten zero [] xs = refl
