@@ -1,32 +1,56 @@
 -- A list with another written over it from a place on. No lemma asks that the place lies within the list.
-use Rattle.std.proofs.Common.{◌≡◌, ℕ, zero, suc, ◌+◌, ◌<◌, ◌≤◌, List, [], ◌∷◌, ◌++◌, length, get_or, drop, set, replicate, refl, ap, suc-add, zero-add, arith}
-use Rattle.std.proofs.lemmas.List.{replicate_more, length-replicate}
+use Rattle.std.proofs.Common.{◌≡◌, ℕ, zero, suc, ◌+◌, ◌-◌, ◌<◌, ◌≤◌, min, List, [], ◌∷◌, length, get_or, take, drop, replicate, sym, refl, ap, ◌∙◌, suc-add, zero-add, arith}
+use Rattle.std.proofs.lemmas.List.{length-replicate, length-drop, length-take-le, take_all}
+use borrow.Rule.Slice.PartMut.{put_mid}
 use Rattle.flash.specs.Lists.{overwritten}
 
 module _ {A : Type 0} where
-  pub overwritten_none : (n : ℕ) (xs : List A) → overwritten n [] xs ≡ xs
-  overwritten_none zero xs = refl
-  overwritten_none (suc n) [] = refl
-  overwritten_none (suc n) (x ∷ xs) = ap (λ ys. x ∷ ys) (overwritten_none n xs)
+  -- ws put in the place of as many elements that are there
+  put_overwritten : (n : ℕ) (ws xs : List A) → n + length ws ≤ length xs →
+      put_mid n (length ws) xs ws ≡ overwritten n ws xs
+  put_overwritten zero [] xs h = refl
+  put_overwritten zero (w ∷ ws) [] h = absurd (omega arith)
+  put_overwritten zero (w ∷ ws) (x ∷ xs) h = ap (λ ys. w ∷ ys) (put_overwritten zero ws xs (omega arith))
+  put_overwritten (suc n) ws [] h = absurd (omega arith)
+  put_overwritten (suc n) ws (x ∷ xs) h = ap (λ ys. x ∷ ys) (put_overwritten n ws xs (omega arith))
 
-  -- one more at the end of what is written
-  pub overwritten_push : (n : ℕ) (ws xs : List A) (y : A) →
-      overwritten n (ws ++ y ∷ []) xs ≡ set (overwritten n ws xs) (n + length ws) y
-  overwritten_push zero [] [] y = refl
-  overwritten_push zero [] (x ∷ xs) y = refl
-  overwritten_push zero (w ∷ ws) [] y = refl
-  overwritten_push zero (w ∷ ws) (x ∷ xs) y = rw zero-add (ap (λ ys. w ∷ ys) (rw zero-add at (overwritten_push zero ws xs y)))
-  overwritten_push (suc n) ws [] y = refl
-  overwritten_push (suc n) ws (x ∷ xs) y = rw suc-add (ap (λ ys. x ∷ ys) (overwritten_push n ws xs y))
+  -- a part of a list, m elements long, that was filled with y
+  pub put_filled : (n k m : ℕ) (xs ys : List A) (y : A) → k ≡ m → ys ≡ replicate (length (take k (drop n xs))) y →
+      n + m ≤ length xs → put_mid n k xs ys ≡ overwritten n (replicate m y) xs
+  put_filled n k m xs ys y e f h =
+      let has : m ≤ length (drop n xs) = omega (arith, length-drop n xs) in
+      let long : length (take k (drop n xs)) ≡ m = ap (λ i. length (take i (drop n xs))) e ∙ length-take-le m (drop n xs) has in
+      let made = length-replicate m y in
+      (λ j. put_mid n ((e ∙ sym made) j) xs ((f ∙ ap (λ i. replicate i y) long) j))
+      ∙ put_overwritten n (replicate m y) xs (omega arith)
 
-  -- the step of a loop that writes y from the place n on
-  pub fill_step : (n i : ℕ) (xs ys : List A) (y : A) → ys ≡ overwritten n (replicate i y) xs →
-      set ys (n + i) y ≡ overwritten n (replicate (i + 1) y) xs
-  fill_step n i xs ys y h =
-      let e = overwritten_push n (replicate i y) xs y in
-      let l = length-replicate i y in
-      let r = replicate_more i y in
-      cc
+  -- only as many of ws count as there are places for, and no place past the end
+  overwritten_cut : (n k : ℕ) (ws xs : List A) → k ≡ min (length ws) (length xs - n) →
+      overwritten n (take k ws) xs ≡ overwritten n ws xs
+  overwritten_cut zero k [] xs h = ap (λ vs. overwritten zero vs xs) (take_all k [] (omega arith))
+  overwritten_cut zero zero (w ∷ ws) [] h = refl
+  overwritten_cut zero (suc k) (w ∷ ws) [] h = refl
+  overwritten_cut zero zero (w ∷ ws) (x ∷ xs) h = absurd (omega arith)
+  overwritten_cut zero (suc k) (w ∷ ws) (x ∷ xs) h = ap (λ ys. w ∷ ys) (overwritten_cut zero k ws xs (omega arith))
+  overwritten_cut (suc n) k ws [] h = refl
+  overwritten_cut (suc n) k ws (x ∷ xs) h = ap (λ ys. x ∷ ys) (overwritten_cut n k ws xs (omega arith))
+
+  overwritten_past : (s n : ℕ) (ws xs : List A) → s ≡ min n (length xs) → overwritten s ws xs ≡ overwritten n ws xs
+  overwritten_past zero zero ws xs h = refl
+  overwritten_past zero (suc n) [] [] h = refl
+  overwritten_past zero (suc n) (w ∷ ws) [] h = refl
+  overwritten_past zero (suc n) ws (x ∷ xs) h = absurd (omega arith)
+  overwritten_past (suc s) zero ws xs h = absurd (omega arith)
+  overwritten_past (suc s) (suc n) ws [] h = refl
+  overwritten_past (suc s) (suc n) ws (x ∷ xs) h = ap (λ ys. x ∷ ys) (overwritten_past s n ws xs (omega arith))
+
+  -- the first k of ws put in their places, where k is how many have one
+  pub put_within : (s n m k : ℕ) (ws vs xs : List A) → s ≡ min n (length xs) → k ≡ min (length ws) (length xs - s) →
+      m ≡ k → vs ≡ take k ws → put_mid s m xs vs ≡ overwritten n ws xs
+  put_within s n m k ws vs xs e f h v =
+      let made : length (take k ws) ≡ k = length-take-le k ws (omega arith) in
+      (λ j. put_mid s ((h ∙ sym made) j) xs (v j))
+      ∙ put_overwritten s (take k ws) xs (omega arith) ∙ overwritten_cut s k ws xs f ∙ overwritten_past s n ws xs e
 
   pub length_overwritten : (n : ℕ) (ws xs : List A) → length (overwritten n ws xs) ≡ length xs
   length_overwritten zero [] xs = refl

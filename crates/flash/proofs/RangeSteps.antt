@@ -25,17 +25,18 @@ module _ (m : Meaning) (p : ℕ) where
   refused_leaves zero f h e = absurd (omega arith)
   refused_leaves (suc n) f h e = grind (arith, nat_tests)
 
-  module _ (m' : Meaning) (left : m' ≡ erase_leaves m p) (n n' : ℕ) (less : suc n' ≡ n)
+  -- q is the next page, and n' pages are left of the n
+  module _ (m' : Meaning) (left : m' ≡ erase_leaves m p) (q n n' : ℕ) (next : q ≡ p + 1) (less : suc n' ≡ n)
       (served : ◌≡◌ {A = Result (Unit {0}) FlashFault} (Ok tt) (erase_answer m p)) where
-    pub served_answer : (k : ℕ) → erase_rest_answer (k + 1) m' (p + 1) n' ≡ erase_rest_answer k m p n
+    pub served_answer : (k : ℕ) → erase_rest_answer (k + 1) m' q n' ≡ erase_rest_answer k m p n
     served_answer k =
         let e : erase_rest_answer (k + 1) (erase_leaves m p) (p + 1) n' ≡ erase_rest_answer k m p (suc n') = grind (arith, nat_tests) in
-        ap (λ x. erase_rest_answer (k + 1) x (p + 1) n') left ∙ e ∙ ap (λ x. erase_rest_answer k m p x) less
+        (λ j. erase_rest_answer (k + 1) (left j) (next j) n') ∙ e ∙ ap (λ x. erase_rest_answer k m p x) less
 
-    pub served_leaves : erase_range_leaves m' (p + 1) n' ≡ erase_range_leaves m p n
+    pub served_leaves : erase_range_leaves m' q n' ≡ erase_range_leaves m p n
     served_leaves =
         let e : erase_range_leaves (erase_leaves m p) (p + 1) n' ≡ erase_range_leaves m p (suc n') = grind (arith, nat_tests) in
-        ap (λ x. erase_range_leaves x (p + 1) n') left ∙ e ∙ ap (λ x. erase_range_leaves m p x) less
+        (λ j. erase_range_leaves (left j) (next j) n') ∙ e ∙ ap (λ x. erase_range_leaves m p x) less
 
 -- a word below an erased page, and so below an erased range, is read as before
 erase_stays : (m : Meaning) (q i : ℕ) → i < 128 * q → word_answer (erase_leaves m q) i ≡ word_answer m i

@@ -1,5 +1,5 @@
 -- What a power cut inside a call leaves of the write that the call would have made.
-use Rattle.std.specs.Prelude.{ℕ, Bool, cond, List, slice_index}
+use Rattle.std.specs.Prelude.{ℕ, Bool, if◌then◌else◌, List, slice_index}
 use Rattle.flash.specs.Meaning.{Meaning, with_word, with_page, with_erase_taken, with_options, with_option_write_taken}
 use Rattle.flash.specs.Effects.{Write, no_write, program_word, erase_page, set_options, written}
 
@@ -15,9 +15,9 @@ abbrev pub junk_written : List ℕ → List ℕ → Bool → Write → Meaning �
 junk_written us os falls no_write m = m
 junk_written us os falls (program_word i v) m = with_word i (slice_index us 0) m
 junk_written us os falls (erase_page p) m =
-    cond falls (with_erase_taken p (with_page p us m)) (with_page p us m)
+    if falls then with_erase_taken p (with_page p us m) else with_page p us m
 junk_written us os falls (set_options ws) m =
-    cond falls (with_option_write_taken (with_options os m)) (with_options os m)
+    if falls then with_option_write_taken (with_options os m) else with_options os m
 
 abbrev pub cut_written : Way → Write → Meaning → Meaning
 cut_written old w m = m

@@ -1,19 +1,19 @@
 -- What each function of a flash answers, and which write it makes, as definitions of the meaning and the
 -- arguments. Each test for a refusal stands once, in the `-case` of its function.
-use Rattle.std.specs.Prelude.{ℕ, ◌*◌, cond, List, Ok, Err, Result, ◌==◌, nat_lt, slice_index}
+use Rattle.std.specs.Prelude.{ℕ, ◌*◌, if◌then◌else◌, List, Ok, Err, Result, ◌==◌, nat_lt, slice_index}
 use Rattle.flash.specs.declared.fault.FlashFault.{FlashFault}
 use Rattle.flash.specs.Faults.{no_page, no_word, no_option_word, word_not_erased, page_worn, options_worn}
 use Rattle.flash.specs.Meaning.{Meaning, blank, blank_page, with_word, with_page, with_erase_taken, with_options, with_option_write_taken}
 
 -- Questions: a number that does not exist is out of range.
 abbrev pub word_answer : Meaning → ℕ → Result ℕ FlashFault
-word_answer m i = cond (nat_lt i (128 * m.pages)) (Ok (slice_index m.words i)) (Err (no_word i))
+word_answer m i = if nat_lt i (128 * m.pages) then Ok (slice_index m.words i) else Err (no_word i)
 
 abbrev pub option_word_answer : Meaning → ℕ → Result ℕ FlashFault
-option_word_answer m i = cond (nat_lt i 4) (Ok (slice_index m.options i)) (Err (no_option_word i))
+option_word_answer m i = if nat_lt i 4 then Ok (slice_index m.options i) else Err (no_option_word i)
 
 abbrev pub erases_left_answer : Meaning → ℕ → Result ℕ FlashFault
-erases_left_answer m p = cond (nat_lt p m.pages) (Ok (slice_index m.erases_left p)) (Err (no_page p))
+erases_left_answer m p = if nat_lt p m.pages then Ok (slice_index m.erases_left p) else Err (no_page p)
 
 -- The one write that a call makes, or none.
 pub data Write : Type 0 where
@@ -32,7 +32,7 @@ written (set_options os) m = with_option_write_taken (with_options os m)
 -- Program: out of range, else not erased, else served.
 abbrev pub program_case : {A : Type 0} → Meaning → ℕ → A → A → A → A
 program_case m i range not_erased served =
-    cond (nat_lt i (128 * m.pages)) (cond (slice_index m.words i == blank) served not_erased) range
+    if nat_lt i (128 * m.pages) then if slice_index m.words i == blank then served else not_erased else range
 
 abbrev pub program_answer : Meaning → ℕ → Result (Unit {0}) FlashFault
 program_answer m i = program_case m i (Err (no_word i)) (Err (word_not_erased i)) (Ok tt)
@@ -46,7 +46,7 @@ program_leaves m i v = written (program_write m i v) m
 -- Erase: out of range, else worn, else served.
 abbrev pub erase_case : {A : Type 0} → Meaning → ℕ → A → A → A → A
 erase_case m p range worn served =
-    cond (nat_lt p m.pages) (cond (slice_index m.erases_left p == 0) worn served) range
+    if nat_lt p m.pages then if slice_index m.erases_left p == 0 then worn else served else range
 
 abbrev pub erase_answer : Meaning → ℕ → Result (Unit {0}) FlashFault
 erase_answer m p = erase_case m p (Err (no_page p)) (Err (page_worn p)) (Ok tt)
@@ -59,7 +59,7 @@ erase_leaves m p = written (erase_write m p) m
 
 -- Option write: worn, else served.
 abbrev pub options_case : {A : Type 0} → Meaning → A → A → A
-options_case m worn served = cond (m.option_writes_left == 0) worn served
+options_case m worn served = if m.option_writes_left == 0 then worn else served
 
 abbrev pub options_answer : Meaning → Result (Unit {0}) FlashFault
 options_answer m = options_case m (Err options_worn) (Ok tt)

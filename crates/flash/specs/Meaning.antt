@@ -34,63 +34,27 @@ page_written p ws words = overwritten (128 * p) (as_words 128 ws) words
 
 -- the meaning with its word i at the low 32 bits of v, all else as it was; as it was where there is no word i
 abbrev pub with_word : ℕ → ℕ → Meaning → Meaning
-with_word i v m = record {
-  pages = m.pages;
-  words = slice_set m.words i (v % 2 ^ 32);
-  options = m.options;
-  erases_left = m.erases_left;
-  option_writes_left = m.option_writes_left;
-}
+with_word i v m = record m { words = slice_set m.words i (v % 2 ^ 32) }
 
 -- the meaning with the words ws in page p
 abbrev pub with_page : ℕ → List ℕ → Meaning → Meaning
-with_page p ws m = record {
-  pages = m.pages;
-  words = page_written p ws m.words;
-  options = m.options;
-  erases_left = m.erases_left;
-  option_writes_left = m.option_writes_left;
-}
+with_page p ws m = record m { words = page_written p ws m.words }
 
 -- the meaning with one erase less left of page p
 abbrev pub with_erase_taken : ℕ → Meaning → Meaning
-with_erase_taken p m = record {
-  pages = m.pages;
-  words = m.words;
-  options = m.options;
-  erases_left = slice_set m.erases_left p (slice_index m.erases_left p - 1);
-  option_writes_left = m.option_writes_left;
-}
+with_erase_taken p m = record m { erases_left = slice_set m.erases_left p (slice_index m.erases_left p - 1) }
 
 -- the meaning with the four option words os
 abbrev pub with_options : List ℕ → Meaning → Meaning
-with_options os m = record {
-  pages = m.pages;
-  words = m.words;
-  options = as_words 4 os;
-  erases_left = m.erases_left;
-  option_writes_left = m.option_writes_left;
-}
+with_options os m = record m { options = as_words 4 os }
 
 -- the meaning with one option write less left
 abbrev pub with_option_write_taken : Meaning → Meaning
-with_option_write_taken m = record {
-  pages = m.pages;
-  words = m.words;
-  options = m.options;
-  erases_left = m.erases_left;
-  option_writes_left = m.option_writes_left - 1;
-}
+with_option_write_taken m = record m { option_writes_left = m.option_writes_left - 1 }
 
 -- all that a flash is known by but its user words
 abbrev pub without_words : Meaning → Meaning
-without_words m = record {
-  pages = m.pages;
-  words = [];
-  options = m.options;
-  erases_left = m.erases_left;
-  option_writes_left = m.option_writes_left;
-}
+without_words m = record m { words = [] }
 
 -- What a flash that holds lent tables keeps besides its meaning: the names by which the checker knows the
 -- lent references, and what the tables hold outside of the meaning.

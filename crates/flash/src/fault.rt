@@ -1,6 +1,9 @@
 ghost use Rattle.std.specs.Prelude.{◌≡◌};
 ghost use Rattle.flash.specs.Faults.{no_option_word, no_page, no_word, options_worn, page_worn, word_not_erased};
 
+use std::error::Error;
+use std::fmt;
+
 // Why a flash refuses.
 #[derive(Clone, Copy, PartialEq, Eq, Debug)]
 pub enum Cause {
@@ -27,6 +30,35 @@ pub struct FlashFault {
     pub cause: Cause,
     pub asked: Asked,
 }
+
+impl fmt::Display for Cause {
+    fn fmt<W: fmt::Write>(&self, f: &mut fmt::Formatter<W>) -> fmt::Result {
+        f.write_str(match self {
+            Cause::Range => "out of range",
+            Cause::NotErased => "not erased",
+            Cause::Worn => "worn",
+        })
+    }
+}
+
+impl fmt::Display for Asked {
+    fn fmt<W: fmt::Write>(&self, f: &mut fmt::Formatter<W>) -> fmt::Result {
+        match self {
+            Asked::Page(page) => write!(f, "page {page}"),
+            Asked::Word(i) => write!(f, "word {i}"),
+            Asked::OptionWord(i) => write!(f, "option word {i}"),
+            Asked::OptionWrite => write!(f, "option write"),
+        }
+    }
+}
+
+impl fmt::Display for FlashFault {
+    fn fmt<W: fmt::Write>(&self, f: &mut fmt::Formatter<W>) -> fmt::Result {
+        write!(f, "{}, {}", self.cause, self.asked)
+    }
+}
+
+impl Error for FlashFault {}
 
 // The six refusals. No other is made anywhere.
 impl FlashFault {

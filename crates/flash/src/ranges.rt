@@ -18,15 +18,13 @@ pub fn erase_range<F: Flash>(flash: &mut F, first: u32, count: u32) -> Erased
     ensures blank { RangeIsBlank result first count (F.meaning flash.new) }
     ensures loans { F.lent flash.new ≡ F.lent flash.old }
 {
-    let mut page = first;
     for done in 0..count {
-        if let Err(fault) = flash.erase(page) {
+        if let Err(fault) = flash.erase(first + done) {
             return Erased {
                 done,
                 refused: Some(fault),
             };
         }
-        page += 1;
     }
     Erased {
         done: count,

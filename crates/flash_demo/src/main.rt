@@ -1,7 +1,7 @@
 // One run over any flash, printed for a word flash and for a pair flash: the two texts are the same.
 #![tactic(auto)]
 
-use flash::{Asked, Cause, Flash, FlashFault, erase_range};
+use flash::{Flash, FlashFault, erase_range};
 use flash_kinds::{PageRecord, PairFlash, WordFlash, laws_hold};
 use std::io;
 
@@ -45,166 +45,135 @@ fn main(rt: HostRuntime) -> io::Result<()> {
     )
 }
 
-// What is done with a flash, one thing after another.
-#[derive(Clone, Copy)]
-enum Step {
-    ShowWord(u32),
-    ShowLeft(u32),
-    ShowOption(u32),
-    Program(u32, u32),
-    Erase(u32),
-    Range(u32, u32),
-    WriteOptions([u32; 4]),
-}
-
-// Words are written once, and read back.
-const FIRST_WORDS: [Step; 10] = [
-    Step::ShowWord(0),
-    Step::Program(0, 0x1122_3344),
-    Step::ShowWord(0),
-    Step::Program(0, 0x1122_3344),
-    Step::Program(0, 0),
-    Step::ShowWord(0),
-    Step::Program(1023, 0),
-    Step::ShowWord(1023),
-    Step::Program(1024, 0),
-    Step::ShowWord(1024),
-];
-
-// A page is erased until it is worn.
-const WEAR: [Step; 13] = [
-    Step::ShowLeft(0),
-    Step::Erase(0),
-    Step::ShowWord(0),
-    Step::ShowWord(1023),
-    Step::ShowLeft(0),
-    Step::Program(0, 5),
-    Step::Erase(0),
-    Step::ShowLeft(0),
-    Step::Program(0, 6),
-    Step::Erase(0),
-    Step::ShowWord(0),
-    Step::Erase(8),
-    Step::ShowLeft(8),
-];
-
-// Ranges of pages: one that is served, one that passes the end, one that meets a worn page, an empty one.
-const RANGES: [Step; 5] = [
-    Step::Range(5, 3),
-    Step::Range(6, 3),
-    Step::Range(4, 4),
-    Step::Range(9, 0),
-    Step::ShowWord(1023),
-];
-
-// The option writes are used up.
-const OPTIONS: [Step; 7] = [
-    Step::ShowOption(0),
-    Step::WriteOptions([1, 2, 3, 0xFFFF_FFFF]),
-    Step::ShowOption(0),
-    Step::ShowOption(3),
-    Step::ShowOption(4),
-    Step::WriteOptions([0xAA, 0, 0, 0]),
-    Step::ShowOption(0),
-];
-
-fn run<F: Flash>(rt: &HostRuntime, flash: &mut F) -> io::Result<()> {
+// Does with a flash what a demonstration shows, one thing after another.
+fn run(rt: &impl Print, flash: &mut impl Flash) -> io::Result<()> {
     println!(rt; "pages: {}", flash.pages())?;
-    take_all(rt, flash, &FIRST_WORDS)?;
-    take_all(rt, flash, &WEAR)?;
-    take_all(rt, flash, &RANGES)?;
-    take_all(rt, flash, &OPTIONS)
+    let mut demo = Demo { rt, flash };
+    demo.first_words()?;
+    demo.wear()?;
+    demo.ranges()?;
+    demo.options()
 }
 
-fn take_all<F: Flash>(rt: &HostRuntime, flash: &mut F, steps: &[Step]) -> io::Result<()> {
-    for step in steps {
-        take(rt, flash, *step)?;
+// A flash, and where to print what it answers.
+#[derive(Drop)]
+struct Demo<'a, P, F> {
+    rt: &'a P,
+    flash: &'a mut F,
+}
+
+impl<P: Print, F: Flash> Demo<'_, P, F> {
+    // Words are written once, and read back.
+    fn first_words(&mut self) -> io::Result<()> {
+        self.show_word(0)?;
+        self.program(0, 0x1122_3344)?;
+        self.show_word(0)?;
+        self.program(0, 0x1122_3344)?;
+        self.program(0, 0)?;
+        self.show_word(0)?;
+        self.program(1023, 0)?;
+        self.show_word(1023)?;
+        self.program(1024, 0)?;
+        self.show_word(1024)
     }
-    Ok(())
-}
 
-fn take<F: Flash>(rt: &HostRuntime, flash: &mut F, step: Step) -> io::Result<()> {
-    match step {
-        Step::ShowWord(i) => show_word(rt, flash, i),
-        Step::ShowLeft(page) => show_left(rt, flash, page),
-        Step::ShowOption(i) => show_option(rt, flash, i),
-        Step::Program(i, value) => program(rt, flash, i, value),
-        Step::Erase(page) => erase(rt, flash, page),
-        Step::Range(first, count) => range(rt, flash, first, count),
-        Step::WriteOptions(words) => write_options(rt, flash, words),
+    // A page is erased until it is worn.
+    fn wear(&mut self) -> io::Result<()> {
+        self.show_left(0)?;
+        self.erase(0)?;
+        self.show_word(0)?;
+        self.show_word(1023)?;
+        self.show_left(0)?;
+        self.program(0, 5)?;
+        self.erase(0)?;
+        self.show_left(0)?;
+        self.program(0, 6)?;
+        self.erase(0)?;
+        self.show_word(0)?;
+        self.erase(8)?;
+        self.show_left(8)
     }
-}
 
-fn program<F: Flash>(rt: &HostRuntime, flash: &mut F, i: u32, value: u32) -> io::Result<()> {
-    print!(rt; "program word {i} with {value:08X}: ")?;
-    done(rt, flash.program(i, value))
-}
-
-fn erase<F: Flash>(rt: &HostRuntime, flash: &mut F, page: u32) -> io::Result<()> {
-    print!(rt; "erase page {page}: ")?;
-    done(rt, flash.erase(page))
-}
-
-fn write_options<F: Flash>(rt: &HostRuntime, flash: &mut F, words: [u32; 4]) -> io::Result<()> {
-    println!(rt; "option writes left: {}", flash.option_writes_left())?;
-    print!(rt; "write the option words: ")?;
-    done(rt, flash.write_options(words))
-}
-
-fn range<F: Flash>(rt: &HostRuntime, flash: &mut F, first: u32, count: u32) -> io::Result<()> {
-    let erased = erase_range(flash, first, count);
-    print!(rt;
-        "erase {count} pages from {first}: {} erased, ",
-        erased.done
-    )?;
-    match erased.refused {
-        Some(fault) => refused(rt, fault),
-        None => println!(rt; "none refused"),
+    // Ranges of pages: one that is served, one that passes the end, one that meets a worn page, an empty one.
+    fn ranges(&mut self) -> io::Result<()> {
+        self.erase_range(5, 3)?;
+        self.erase_range(6, 3)?;
+        self.erase_range(4, 4)?;
+        self.erase_range(9, 0)?;
+        self.show_word(1023)
     }
-}
 
-fn show_word<F: Flash>(rt: &HostRuntime, flash: &F, i: u32) -> io::Result<()> {
-    print!(rt; "word {i}: ")?;
-    word(rt, flash.word(i))
-}
-
-fn show_option<F: Flash>(rt: &HostRuntime, flash: &F, i: u32) -> io::Result<()> {
-    print!(rt; "option word {i}: ")?;
-    word(rt, flash.option_word(i))
-}
-
-fn show_left<F: Flash>(rt: &HostRuntime, flash: &F, page: u32) -> io::Result<()> {
-    print!(rt; "erases left of page {page}: ")?;
-    match flash.erases_left(page) {
-        Ok(left) => println!(rt; "{left}"),
-        Err(fault) => refused(rt, fault),
+    // The option writes are used up.
+    fn options(&mut self) -> io::Result<()> {
+        self.show_option(0)?;
+        self.write_options([1, 2, 3, 0xFFFF_FFFF])?;
+        self.show_option(0)?;
+        self.show_option(3)?;
+        self.show_option(4)?;
+        self.write_options([0xAA, 0, 0, 0])?;
+        self.show_option(0)
     }
-}
 
-fn word(rt: &HostRuntime, answer: Result<u32, FlashFault>) -> io::Result<()> {
-    match answer {
-        Ok(word) => println!(rt; "{word:08X}"),
-        Err(fault) => refused(rt, fault),
+    fn program(&mut self, i: u32, value: u32) -> io::Result<()> {
+        print!(self.rt; "program word {i} with {value:08X}: ")?;
+        let answer = self.flash.program(i, value);
+        self.show_done(answer)
     }
-}
 
-fn done(rt: &HostRuntime, answer: Result<(), FlashFault>) -> io::Result<()> {
-    match answer {
-        Ok(()) => println!(rt; "done"),
-        Err(fault) => refused(rt, fault),
+    fn erase(&mut self, page: u32) -> io::Result<()> {
+        print!(self.rt; "erase page {page}: ")?;
+        let answer = self.flash.erase(page);
+        self.show_done(answer)
     }
-}
 
-fn refused(rt: &HostRuntime, fault: FlashFault) -> io::Result<()> {
-    let cause = match fault.cause {
-        Cause::Range => "out of range",
-        Cause::NotErased => "not erased",
-        Cause::Worn => "worn",
-    };
-    match fault.asked {
-        Asked::Page(page) => println!(rt; "refused, {cause}, page {page}"),
-        Asked::Word(i) => println!(rt; "refused, {cause}, word {i}"),
-        Asked::OptionWord(i) => println!(rt; "refused, {cause}, option word {i}"),
-        Asked::OptionWrite => println!(rt; "refused, {cause}, option write"),
+    fn erase_range(&mut self, first: u32, count: u32) -> io::Result<()> {
+        let erased = erase_range(self.flash, first, count);
+        print!(self.rt;
+            "erase {count} pages from {first}: {} erased, ",
+            erased.done
+        )?;
+        match erased.refused {
+            Some(fault) => println!(self.rt; "refused, {fault}"),
+            None => println!(self.rt; "none refused"),
+        }
+    }
+
+    fn write_options(&mut self, words: [u32; 4]) -> io::Result<()> {
+        println!(self.rt; "option writes left: {}", self.flash.option_writes_left())?;
+        print!(self.rt; "write the option words: ")?;
+        let answer = self.flash.write_options(words);
+        self.show_done(answer)
+    }
+
+    fn show_word(&self, i: u32) -> io::Result<()> {
+        print!(self.rt; "word {i}: ")?;
+        self.show_answer(self.flash.word(i))
+    }
+
+    fn show_option(&self, i: u32) -> io::Result<()> {
+        print!(self.rt; "option word {i}: ")?;
+        self.show_answer(self.flash.option_word(i))
+    }
+
+    fn show_left(&self, page: u32) -> io::Result<()> {
+        print!(self.rt; "erases left of page {page}: ")?;
+        match self.flash.erases_left(page) {
+            Ok(left) => println!(self.rt; "{left}"),
+            Err(fault) => println!(self.rt; "refused, {fault}"),
+        }
+    }
+
+    fn show_answer(&self, answer: Result<u32, FlashFault>) -> io::Result<()> {
+        match answer {
+            Ok(word) => println!(self.rt; "{word:08X}"),
+            Err(fault) => println!(self.rt; "refused, {fault}"),
+        }
+    }
+
+    fn show_done(&self, answer: Result<(), FlashFault>) -> io::Result<()> {
+        match answer {
+            Ok(()) => println!(self.rt; "done"),
+            Err(fault) => println!(self.rt; "refused, {fault}"),
+        }
     }
 }

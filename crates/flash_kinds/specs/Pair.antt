@@ -26,7 +26,7 @@ pair_meaning_from low high low_records_of high_records_of options writes =
 
 abbrev pub pair_meaning : PairFlash → Meaning
 pair_meaning f =
-    pair_meaning_from f.low.now f.high.now f.low_records.now f.high_records.now f.options f.option_writes
+    pair_meaning_from f.low.now f.high.now f.low_records.now f.high_records.now f.options.words f.options.writes_left
 
 -- what it keeps of its tables, each with its name
 abbrev pub pair_lent_from : ℕ → ℕ → ℕ → ℕ → List ℕ → List ℕ → List PageRecord → List PageRecord → Lent

@@ -41,7 +41,7 @@ tables_sound pages words lefts options writes eights most has = record {
 pub word_sound : (f : WordFlash) → Sound (word_meaning f)
 word_sound f =
     let g = word_greatest (length f.words.now) (length f.records.now) in
-    tables_sound _ f.words.now (map left_of f.records.now) f.options _ g.eights g.most
+    tables_sound _ f.words.now (map left_of f.records.now) f.options.words _ g.eights g.most
     (simp length-map g.fills.1)
 
 pub pair_greatest : (low high low_records_of high_records_of : ℕ) →
@@ -58,5 +58,5 @@ pair_sound f =
     let g = pair_greatest (length f.low.now) (length f.high.now) (length lows) (length highs) in
     let l = length-map lows left_of in
     let h = length-map highs left_of in
-    tables_sound _ (both joined_halves f.low.now f.high.now) (both min (map left_of lows) (map left_of highs)) f.options _
+    tables_sound _ (both joined_halves f.low.now f.high.now) (both min (map left_of lows) (map left_of highs)) f.options.words _
     g.eights g.most (omega (arith, length_both min (map left_of lows) (map left_of highs), g.fills))

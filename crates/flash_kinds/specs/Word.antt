@@ -15,7 +15,7 @@ word_meaning_from words records options writes =
     tables_meaning (word_pages (length words) (length records)) words (map left_of records) options writes
 
 abbrev pub word_meaning : WordFlash → Meaning
-word_meaning f = word_meaning_from f.words.now f.records.now f.options f.option_writes
+word_meaning f = word_meaning_from f.words.now f.records.now f.options.words f.options.writes_left
 
 -- what it keeps of its tables, each with its name
 abbrev pub word_lent_from : ℕ → ℕ → List ℕ → List PageRecord → Lent

@@ -1,7 +1,9 @@
 // Two kinds of flash in lent tables. FLASH.md is its guide.
 #![tactic(auto)]
 
+mod calls;
 mod laws;
+mod options;
 mod pair_flash;
 mod record;
 mod tables;

@@ -1,3 +1,4 @@
+use crate::options::OptionWords;
 use crate::record::PageRecord;
 
 // A flash of two 16-bit chips in lent memory, one with the low half of each word and one with the high half. Each
@@ -8,8 +9,7 @@ pub struct PairFlash<'a> {
     high: &'a mut [u16],
     low_records: &'a mut [PageRecord],
     high_records: &'a mut [PageRecord],
-    options: [u32; 4],
-    option_writes: u32,
+    options: OptionWords,
 }
 
 pub(crate) mod calls;

@@ -21,13 +21,13 @@ pub(crate) fn at<W: Copy>(cells: &[W], i: u32) -> W
 
 // Writes `blank` into each of the 128 cells of a page.
 pub(crate) fn fill_page<W: Copy>(cells: &mut [W], page: u32, blank: W)
-    requires { 128 * page + 128 ≤ length cells.old }
+    requires within { 128 * page + 128 ≤ length cells.old }
+    requires copied { W.is_infallible blank }
+    requires as_it_is { (cell : W) → W.is_clone blank cell → cell ≡ blank }
     ensures { cells.new ≡ overwritten (128 * page) (replicate 128 blank) cells.old }
 {
     let start = 128 * page as usize;
-    for i in 0..128usize {
-        cells[start + i] = blank;
-    }
+    cells[start..start + 128].fill(blank);
 }
 
 // The erases left by the record of a page.
@@ -46,8 +46,5 @@ pub(crate) fn count_erase(records: &mut [PageRecord], page: u32)
     ensures { records.new ≡ slice_set records.old page (once_more (slice_index_or records.old page no_record)) }
 {
     let record = records[page as usize];
-    records[page as usize] = PageRecord {
-        made: record.made + 1,
-        allowed: record.allowed,
-    };
+    records[page as usize].made = record.made + 1;
 }

@@ -1,3 +1,4 @@
+use crate::options::OptionWords;
 use crate::record::PageRecord;
 
 // A flash in lent memory: a table of words and a table of page records.
@@ -5,8 +6,7 @@ use crate::record::PageRecord;
 pub struct WordFlash<'a> {
     words: &'a mut [u32],
     records: &'a mut [PageRecord],
-    options: [u32; 4],
-    option_writes: u32,
+    options: OptionWords,
 }
 
 pub(crate) mod calls;

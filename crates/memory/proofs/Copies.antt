@@ -35,14 +35,6 @@ copied_more xs out old b first i w h e f o l =
     ap (λ x. bytes_of_words ws ++ x) f ∙ sym (bytes_push ws w) ∙ ap bytes_of_words (sym m) in
     (p ∙ ap (λ x. x ++ drop (4 * (i + 1)) old) q, ap length m ∙ length_push ws w ∙ ap (λ (x : ℕ). x + 1) l)
 
-pub copied : (ws out old : List ℕ) (i : ℕ) → out ≡ bytes_of_words ws ++ drop (4 * i) old → length ws ≡ i
-    → (take (4 * i) out ≡ bytes_of_words ws) × (drop (4 * i) out ≡ drop (4 * i) old)
-copied ws out old i e l =
-    let n : length (bytes_of_words ws) ≡ 4 * i = omega (arith, length_bytes ws) in (
-      ap (take (4 * i)) e ∙ take_at (bytes_of_words ws) (drop (4 * i) old) (4 * i) n,
-      ap (drop (4 * i)) e ∙ drop_at (bytes_of_words ws) (drop (4 * i) old) (4 * i) n,
-    )
-
 pub fed_more : (xs : List ℕ) (first i w start register after : ℕ) (b : List ℕ) → first + i < length xs → w ≡ get_or xs (first + i) 0
     → b ≡ bytes_of_word w → register ≡ feeds start (bytes_of_words (take i (drop first xs))) → after ≡ feeds register b
     → after ≡ feeds start (bytes_of_words (take (i + 1) (drop first xs)))

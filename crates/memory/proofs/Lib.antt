@@ -1,3 +1,2 @@
 mod Copies
-mod Options
 mod Presence

@@ -1,5 +1,5 @@
--- A word of an area that is there, and one that is not.
-use Rattle.std.proofs.Common.{◌≡◌, ℕ, ◌<◌, ◌≤◌, length, get_or, Some, None, arith}
+-- A word of an area that is there.
+use Rattle.std.proofs.Common.{◌≡◌, ℕ, ◌<◌, length, get_or, Some, arith}
 use Rattle.std.proofs.lemmas.Bool.Decides.{nat_tests}
 use Rattle.areas.specs.declared.map.Area.{Area}
 use Rattle.flash.specs.Meaning.{Meaning}
@@ -7,6 +7,3 @@ use Rattle.memory.specs.Portions.{word_in, area_words}
 
 pub present : (m : Meaning) (area : Area) (i w : ℕ) → Some w ≡ word_in m area i → (i < length (area_words m area)) × (w ≡ get_or (area_words m area) i 0)
 present m area i w e = (grind (arith, nat_tests), grind (arith, nat_tests))
-
-pub absent : (m : Meaning) (area : Area) (i : ℕ) → None ≡ word_in m area i → length (area_words m area) ≤ i
-absent m area i e = grind (arith, nat_tests)

@@ -32,10 +32,7 @@ pub fn erase<F: Flash>(flash: &mut F, page: u32) -> Result<(), MemoryFault>
 fn option_word<F: Flash>(flash: &F, i: u32) -> u32
     ensures { result ≡ slice_index (F.meaning flash.now).options i }
 {
-    match word_of(flash, Area::Options, i) {
-        Some(word) => word,
-        None => 0,
-    }
+    word_of(flash, Area::Options, i).unwrap_or(0)
 }
 
 // The four option words.
@@ -50,16 +47,13 @@ pub fn option_words<F: Flash>(flash: &F) -> [u32; 4]
     ]
 }
 
-// Writes the words over the option words, from `first` on.
+// Writes the words over the option words, from `first` on. What would pass the fourth is left out.
 fn overwrite(options: &mut [u32; 4], first: u32, words: &[u32])
     ensures { options.new ≡ options_replaced first words.now options.old }
 {
-    let start = first as usize;
-    for (i, word) in words.iter().enumerate() {
-        if start < 4 && i < 4 - start {
-            options[start + i] = *word;
-        }
-    }
+    let start = (first as usize).min(4);
+    let count = words.len().min(4 - start);
+    options[start..start + count].copy_from_slice(&words[..count]);
 }
 
 // Replaces some option words, from `first` on, and keeps the others.

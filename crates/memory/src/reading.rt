@@ -14,14 +14,10 @@ use flash::Flash;
 pub(crate) fn word_of<F: Flash>(flash: &F, area: Area, i: u32) -> Option<u32>
     ensures { result ≡ word_in (F.meaning flash.now) area i }
 {
-    let answer = match area {
-        Area::User => flash.word(i),
-        Area::Options => flash.option_word(i),
-        Area::Outside => return None,
-    };
-    match answer {
-        Ok(word) => Some(word),
-        Err(_) => None,
+    match area {
+        Area::User => flash.word(i).ok(),
+        Area::Options => flash.option_word(i).ok(),
+        Area::Outside => None,
     }
 }
 
@@ -30,13 +26,11 @@ pub fn feed_words<F: Flash>(flash: &F, first: u32, count: u32, register: u16) ->
     ensures is_the_register_after_the_words { result ≡ feeds register (bytes_of_words (words_at (F.meaning flash.now) User first count)) }
 {
     let mut sum = Checksum::resume(register);
-    let mut at = first;
-    for i in 0..count {
-        let Some(word) = word_of(flash, Area::User, at) else {
-            return sum.register();
+    for done in 0..count {
+        let Some(word) = word_of(flash, Area::User, first + done) else {
+            break;
         };
         sum.feed(&bytes_of(word));
-        at += 1;
     }
     sum.register()
 }
@@ -50,13 +44,11 @@ pub fn copy_words<F: Flash>(flash: &F, area: Area, first: u32, count: u32, out: 
     ensures leaves_the_rest { drop result out.new ≡ drop result out.old }
 {
     let most = (count as usize).min(out.len() / 4);
-    let mut at = first;
-    for i in 0..most {
-        let Some(word) = word_of(flash, area, at) else {
-            return 4 * i;
+    for done in 0..most {
+        let Some(word) = word_of(flash, area, first + done as u32) else {
+            return 4 * done;
         };
-        out[4 * i..4 * i + 4].copy_from_slice(&bytes_of(word));
-        at += 1;
+        out[4 * done..4 * done + 4].copy_from_slice(&bytes_of(word));
     }
     4 * most
 }

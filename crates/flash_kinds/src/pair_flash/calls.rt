@@ -3,12 +3,11 @@ ghost use Rattle.flash_kinds.specs.Sounds.{pair_sound};
 ghost use Rattle.flash_kinds.specs.Tables.{Fill, Greatest};
 ghost use Rattle.std.specs.Prelude.{◌≡◌, length};
 
+use crate::calls::{self, Tables};
+use crate::options::OptionWords;
 use crate::pair_flash::PairFlash;
 use crate::record::PageRecord;
-use crate::tables::{at, filled};
 use flash::{Flash, FlashFault};
-
-const BLANK: u32 = 0xFFFF_FFFF;
 
 impl<'a> PairFlash<'a> {
     // A flash over the lent tables of two chips. It has as many pages as all four tables fill, in whole blocks of 8
@@ -30,8 +29,10 @@ impl<'a> PairFlash<'a> {
             high,
             low_records,
             high_records,
-            options,
-            option_writes,
+            options: OptionWords {
+                words: options,
+                writes_left: option_writes,
+            },
         }
     }
 
@@ -41,16 +42,7 @@ impl<'a> PairFlash<'a> {
         ensures high { self.exit.1.0.now ≡ self.entry.high.now }
         ensures low_records { self.exit.1.1.0.now ≡ self.entry.low_records.now }
         ensures high_records { self.exit.1.1.1.0.now ≡ self.entry.high_records.now }
-    {
-        let PairFlash {
-            low: _,
-            high: _,
-            low_records: _,
-            high_records: _,
-            options: _,
-            option_writes: _,
-        } = self;
-    }
+    {}
 }
 
 impl<'a> Flash for PairFlash<'a> {
@@ -61,58 +53,34 @@ impl<'a> Flash for PairFlash<'a> {
     ghost lent = { pair_lent };
 
     fn pages(&self) -> u32 {
-        let low = filled(self.low.len(), self.low_records.len());
-        let high = filled(self.high.len(), self.high_records.len());
-        low.min(high) / 8 * 8
+        self.page_count()
     }
 
     fn word(&self, i: u32) -> Result<u32, FlashFault> {
-        if i >= 128 * self.pages() {
-            return Err(FlashFault::no_word(i));
-        }
-        Ok(self.read(i))
+        calls::word(self, i)
     }
 
     fn option_word(&self, i: u32) -> Result<u32, FlashFault> {
-        if i >= 4 {
-            return Err(FlashFault::no_option_word(i));
-        }
-        Ok(at(&self.options, i))
+        self.options.word(i)
     }
 
     fn erases_left(&self, page: u32) -> Result<u32, FlashFault> {
-        if page >= self.pages() {
-            return Err(FlashFault::no_page(page));
-        }
-        Ok(self.left(page))
+        calls::erases_left(self, page)
     }
 
     fn option_writes_left(&self) -> u32 {
-        self.option_writes
+        self.options.writes_left
     }
 
     fn program(&mut self, i: u32, value: u32) -> Result<(), FlashFault> {
-        if self.word(i)? != BLANK {
-            return Err(FlashFault::not_erased(i));
-        }
-        self.set(i, value);
-        Ok(())
+        calls::program(self, i, value)
     }
 
     fn erase(&mut self, page: u32) -> Result<(), FlashFault> {
-        if self.erases_left(page)? == 0 {
-            return Err(FlashFault::worn_page(page));
-        }
-        self.clear(page);
-        Ok(())
+        calls::erase(self, page)
     }
 
     fn write_options(&mut self, words: [u32; 4]) -> Result<(), FlashFault> {
-        if self.option_writes == 0 {
-            return Err(FlashFault::worn_options());
-        }
-        self.options = words;
-        self.option_writes -= 1;
-        Ok(())
+        self.options.write(words)
     }
 }

@@ -3,12 +3,11 @@ ghost use Rattle.flash_kinds.specs.Tables.{Fill, Greatest};
 ghost use Rattle.flash_kinds.specs.Word.{word_lent, word_lent_from, word_meaning, word_meaning_from};
 ghost use Rattle.std.specs.Prelude.{◌≡◌, length};
 
+use crate::calls::{self, Tables};
+use crate::options::OptionWords;
 use crate::record::PageRecord;
-use crate::tables::{at, filled};
 use crate::word_flash::WordFlash;
 use flash::{Flash, FlashFault};
-
-const BLANK: u32 = 0xFFFF_FFFF;
 
 impl<'a> WordFlash<'a> {
     // A flash over lent tables. It has as many pages as both tables fill, in whole blocks of 8 and at most 1024;
@@ -26,8 +25,10 @@ impl<'a> WordFlash<'a> {
         WordFlash {
             words,
             records,
-            options,
-            option_writes,
+            options: OptionWords {
+                words: options,
+                writes_left: option_writes,
+            },
         }
     }
 
@@ -35,14 +36,7 @@ impl<'a> WordFlash<'a> {
     pub fn give_up(self)
         ensures words { self.exit.0.now ≡ self.entry.words.now }
         ensures records { self.exit.1.0.now ≡ self.entry.records.now }
-    {
-        let WordFlash {
-            words: _,
-            records: _,
-            options: _,
-            option_writes: _,
-        } = self;
-    }
+    {}
 }
 
 impl<'a> Flash for WordFlash<'a> {
@@ -53,56 +47,34 @@ impl<'a> Flash for WordFlash<'a> {
     ghost lent = { word_lent };
 
     fn pages(&self) -> u32 {
-        filled(self.words.len(), self.records.len()) / 8 * 8
+        self.page_count()
     }
 
     fn word(&self, i: u32) -> Result<u32, FlashFault> {
-        if i >= 128 * self.pages() {
-            return Err(FlashFault::no_word(i));
-        }
-        Ok(self.read(i))
+        calls::word(self, i)
     }
 
     fn option_word(&self, i: u32) -> Result<u32, FlashFault> {
-        if i >= 4 {
-            return Err(FlashFault::no_option_word(i));
-        }
-        Ok(at(&self.options, i))
+        self.options.word(i)
     }
 
     fn erases_left(&self, page: u32) -> Result<u32, FlashFault> {
-        if page >= self.pages() {
-            return Err(FlashFault::no_page(page));
-        }
-        Ok(self.left(page))
+        calls::erases_left(self, page)
     }
 
     fn option_writes_left(&self) -> u32 {
-        self.option_writes
+        self.options.writes_left
     }
 
     fn program(&mut self, i: u32, value: u32) -> Result<(), FlashFault> {
-        if self.word(i)? != BLANK {
-            return Err(FlashFault::not_erased(i));
-        }
-        self.set(i, value);
-        Ok(())
+        calls::program(self, i, value)
     }
 
     fn erase(&mut self, page: u32) -> Result<(), FlashFault> {
-        if self.erases_left(page)? == 0 {
-            return Err(FlashFault::worn_page(page));
-        }
-        self.clear(page);
-        Ok(())
+        calls::erase(self, page)
     }
 
     fn write_options(&mut self, words: [u32; 4]) -> Result<(), FlashFault> {
-        if self.option_writes == 0 {
-            return Err(FlashFault::worn_options());
-        }
-        self.options = words;
-        self.option_writes -= 1;
-        Ok(())
+        self.options.write(words)
     }
 }

@@ -1,4 +1,4 @@
-use Rattle.std.proofs.Common.{◌≡◌, ◌+◌, ◌-◌}
+use Rattle.std.proofs.Common.{◌≡◌, ◌+◌, ◌-◌, ◌<◌, ◌≤◌}
 use Rattle.flash.specs.Ranges.{erase_rest_answer, erase_range_leaves}
 use Rattle.flash.proofs.ranges.erase_range.Given as goal
 
@@ -7,7 +7,7 @@ abbrev pub invariant-loop-done : goal.invariant-loop-done
 invariant-loop-done g l =
     let m = g.F.Flash.meaning l.flash in
     let before = g.F.Flash.meaning l.initial.flash in
-    (l.page ≡ l.first + l.done)
-    × (erase_rest_answer l.done m l.page (l.count - l.done) ≡ erase_rest_answer 0 before l.first l.count)
-    × (erase_range_leaves m l.page (l.count - l.done) ≡ erase_range_leaves before l.first l.count)
+    (0 < l.done → l.first + l.done ≤ m.pages)
+    × (erase_rest_answer l.done m (l.first + l.done) (l.count - l.done) ≡ erase_rest_answer 0 before l.first l.count)
+    × (erase_range_leaves m (l.first + l.done) (l.count - l.done) ≡ erase_range_leaves before l.first l.count)
     × (g.F.Flash.lent l.flash ≡ g.F.Flash.lent l.initial.flash)

@@ -1,7 +1,7 @@
 use Rattle.std.proofs.Common.{◌<◌, length, arith}
 use Rattle.std.proofs.lemmas.List.{get_or_read}
 use Rattle.flash_kinds.proofs.Changes.{read_as_word}
-use Rattle.flash_kinds.proofs.word_flash.WordFlash.read.Goals as goal
+use Rattle.flash_kinds.proofs.word_flash.parts.WordFlashTables.read.Goals as goal
 
 pub returns : goal.returns
 returns c =

@@ -4,7 +4,7 @@ use Rattle.flash.specs.Lists.{both}
 use Rattle.flash_kinds.specs.Pair.{joined_halves}
 use Rattle.flash_kinds.proofs.Boths.{get_or_both}
 use Rattle.flash_kinds.proofs.Changes.{read_as_word}
-use Rattle.flash_kinds.proofs.pair_flash.PairFlash.read.Goals as goal
+use Rattle.flash_kinds.proofs.pair_flash.parts.PairFlashTables.read.Goals as goal
 
 pub returns : goal.returns
 returns c =

@@ -1,15 +1,15 @@
-use Rattle.std.proofs.Common.{◌≡◌, ◌+◌, ◌*◌, ◌/◌, ◌%◌, ◌<◌, min, [], ◌∷◌, ◌++◌, map, length, set, refl, ap, ◌∙◌, arith}
+use Rattle.std.proofs.Common.{◌≡◌, ◌+◌, ◌*◌, ◌/◌, ◌%◌, ◌<◌, min, map, length, set, refl, ap, ◌∙◌, arith}
 use Rattle.std.proofs.lemmas.List.{length-set}
 use Rattle.flash.specs.Lists.{both}
 use Rattle.flash_kinds.specs.Tables.{left_of}
 use Rattle.flash_kinds.specs.Pair.{pair_meaning, pair_pages, joined_halves}
 use Rattle.flash.specs.Words.{length_both}
 use Rattle.flash_kinds.proofs.Boths.{both_set}
-use Rattle.flash_kinds.proofs.Changes.{tables_programmed, outside_set}
-use Rattle.flash_kinds.proofs.pair_flash.PairFlash.set.Goals as goal
+use Rattle.flash_kinds.proofs.Changes.{tables_programmed}
+use Rattle.flash_kinds.proofs.pair_flash.parts.PairFlashTables.set.Goals as goal
 
-pub returns : goal.returns
-returns c =
+pub returns-clause-leaves : goal.returns-clause-leaves
+returns-clause-leaves c =
     let f = c.args.self.now in
     let m = pair_meaning f in
     let ls = f.low.now in
@@ -26,12 +26,4 @@ returns c =
     let words = both_set joined_halves ls hs i l h ∙ ap (λ w. set (both joined_halves ls hs) i w) whole in
     let pages : pair_pages (length (set ls i l)) (length (set hs i h)) (length lrs) (length hrs) ≡ m.pages
     = λ j. pair_pages (length-set ls i l j) (length-set hs i h j) (length lrs) (length hrs) in
-    let OutsideLow = outside_set m.pages _ ls _ lrs i l pages refl c.requires in
-    let OutsideHigh = outside_set m.pages _ hs _ hrs i h pages refl c.requires in
-    record {
-      leaves = tables_programmed m.pages _ (both joined_halves ls hs) _ lefts lefts f.options f.option_writes i v pages words refl has;
-      loans = λ j. record {
-        names = f.low.ghost_name ∷ f.high.ghost_name ∷ f.low_records.ghost_name ∷ f.high_records.ghost_name ∷ [];
-        outside = OutsideLow j ++ OutsideHigh j;
-      };
-    }
+    tables_programmed m.pages _ (both joined_halves ls hs) _ lefts lefts f.options.words f.options.writes_left i v pages words refl has

@@ -1,6 +1,6 @@
 use Rattle.std.proofs.Common.{◌<◌, min, length, sym, ◌∙◌, arith}
 use Rattle.flash_kinds.proofs.Boths.{least_within}
-use Rattle.flash_kinds.proofs.pair_flash.PairFlash.left.Goals as goal
+use Rattle.flash_kinds.proofs.pair_flash.parts.PairFlashTables.left.Goals as goal
 
 pub returns : goal.returns
 returns c =

@@ -3,12 +3,7 @@ use Rattle.flash.specs.Meaning.{blank}
 use Rattle.flash_kinds.specs.Tables.{left_of, no_record}
 use Rattle.flash_kinds.specs.Word.{word_meaning, word_pages}
 use Rattle.flash_kinds.proofs.Changes.{tables_erased, outside_erased, lefts_once_more, left_within}
-use Rattle.flash_kinds.proofs.word_flash.WordFlash.clear.Goals as goal
-
-pub count_erase-requires : goal.count_erase-requires
-count_erase-requires c =
-    let left = left_within _ c.args.self.now.records.now c.args.page c.requires.within in
-    record { within = omega arith; left = omega arith }
+use Rattle.flash_kinds.proofs.word_flash.parts.WordFlashTables.clear.Goals as goal
 
 pub returns : goal.returns
 returns c =
@@ -24,7 +19,7 @@ returns c =
     let left = left_within m.pages rs p c.requires.within in
     let above : 0 < left_of (get_or rs p no_record) = omega arith in
     record {
-      leaves = tables_erased m.pages _ ws _ (map left_of rs) _ f.options f.option_writes p pages c.fill_page.ensures lefts c.requires.within filled;
+      leaves = tables_erased m.pages _ ws _ (map left_of rs) _ f.options.words f.options.writes_left p pages c.fill_page.ensures lefts c.requires.within filled;
       loans = λ j. record {
         names = f.words.ghost_name ∷ f.records.ghost_name ∷ [];
         outside = outside_erased blank m.pages _ ws _ rs _ p pages c.fill_page.ensures c.count_erase.ensures c.requires.within above j;

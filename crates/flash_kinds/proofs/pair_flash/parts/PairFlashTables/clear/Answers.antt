@@ -6,7 +6,7 @@ use Rattle.flash_kinds.specs.Pair.{pair_meaning, pair_pages, joined_halves}
 use Rattle.flash.specs.Words.{length_both}
 use Rattle.flash_kinds.proofs.Boths.{both_filled, least_within, least_less}
 use Rattle.flash_kinds.proofs.Changes.{tables_erased, outside_erased}
-use Rattle.flash_kinds.proofs.pair_flash.PairFlash.clear.Goals as goal
+use Rattle.flash_kinds.proofs.pair_flash.parts.PairFlashTables.clear.Goals as goal
 
 -- what erases left above 0 tell of the two chips
 record Told (f : PairFlash) (p : ℕ) : Type 0 where
@@ -24,15 +24,11 @@ told f p h some =
     let e = least_within (pair_meaning f).pages ls hs p h has_low has_high in
     record { has_low = has_low; has_high = has_high; low = omega arith; high = omega arith }
 
-pub count_erase-requires : goal.count_erase-requires
-count_erase-requires c =
-    let t = told c.args.self.now _ c.requires.within c.requires.left in
-    record { within = t.has_low; left = t.low }
+pub count_erase-requires-clause-left : goal.count_erase-requires-clause-left
+count_erase-requires-clause-left c = (told c.args.self.now _ c.requires.within c.requires.left).low
 
-pub count_erase-requires-2 : goal.count_erase-requires-2
-count_erase-requires-2 c =
-    let t = told c.args.self.now _ c.requires.within c.requires.left in
-    record { within = t.has_high; left = t.high }
+pub count_erase-requires-2-clause-left : goal.count_erase-requires-2-clause-left
+count_erase-requires-2-clause-left c = (told c.args.self.now _ c.requires.within c.requires.left).high
 
 pub returns : goal.returns
 returns c =
@@ -54,7 +50,7 @@ returns c =
     let OutsideLow = outside_erased 0xFFFF m.pages _ ls _ lrs _ p pages c.fill_page.ensures c.count_erase.ensures below t.low in
     let OutsideHigh = outside_erased 0xFFFF m.pages _ hs _ hrs _ p pages c.fill_page-2.ensures c.count_erase-2.ensures below t.high in
     record {
-      leaves = tables_erased m.pages _ (both joined_halves ls hs) _ (both min (map left_of lrs) (map left_of hrs)) _ f.options f.option_writes p pages words lefts below filled;
+      leaves = tables_erased m.pages _ (both joined_halves ls hs) _ (both min (map left_of lrs) (map left_of hrs)) _ f.options.words f.options.writes_left p pages words lefts below filled;
       loans = λ j. record {
         names = f.low.ghost_name ∷ f.high.ghost_name ∷ f.low_records.ghost_name ∷ f.high_records.ghost_name ∷ [];
         outside = OutsideLow j ++ OutsideHigh j;
