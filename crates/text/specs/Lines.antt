@@ -1,5 +1,5 @@
 -- A line of words: `(`, which is 40, the words with one blank, 32, between any two, and `)`, which is 41.
-use Rattle.std.specs.Prelude.{ℕ, suc, ◌-◌, Bool, true, false, cond, ◌&&◌, List, [], ◌∷◌, ◌++◌, length, take, drop, Some, None, Option, ◌==◌, nat_le, slice_index}
+use Rattle.std.specs.Prelude.{ℕ, ◌-◌, Bool, true, false, cond, ◌&&◌, List, [], ◌∷◌, ◌++◌, length, take, drop, Some, None, Option, ◌==◌, nat_le, slice_index}
 use Rattle.std.specs.List.{flat_map}
 use Rattle.std.specs.Option.{option_map}
 
@@ -20,11 +20,6 @@ lengthened c (w ∷ ws) = (c ∷ w) ∷ ws
 abbrev pub pieces : List ℕ → List (List ℕ)
 pieces [] = [] ∷ []
 pieces (c ∷ cs) = cond (c == 32) ([] ∷ pieces cs) (lengthened c (pieces cs))
-
--- how many bytes stand before the first blank
-abbrev pub before_blank : List ℕ → ℕ
-before_blank [] = 0
-before_blank (c ∷ cs) = cond (c == 32) 0 (suc (before_blank cs))
 
 -- what a line has between `(` and `)`
 abbrev pub inside : List ℕ → Option (List ℕ)

@@ -2,9 +2,10 @@
 #![tactic(auto)]
 
 pub mod decimal;
-pub mod hexadecimal;
+mod hexadecimal;
 mod output;
 mod words;
 
+pub use hexadecimal::Hexadecimal;
 pub use output::Line;
 pub use words::{Words, is};

@@ -9,7 +9,7 @@ pub loop-byte-preserved : goal.loop-byte-preserved
 loop-byte-preserved c =
     byte_added c.args.bytes.now (so_far c.loop-byte.line) (so_far c.in_ok-line.line)
     (so_far c.args.self ++ more_words (map hex_byte c.args.bytes.now))
-    c.loop-byte.byte-index c.loop-byte-test.true c.in_ok-line.ensures.has_one_more_word_of_two_digits c.loop-byte.invariant
+    c.loop-byte.byte-index c.loop-byte-test.true c.in_ok-line.ensures.has_one_more_word_of_its_digits c.loop-byte.invariant
 
 pub returns : goal.returns
 returns c = record {
