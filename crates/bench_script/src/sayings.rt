@@ -45,8 +45,8 @@ fn report_line(heap: Global, report: CommandFault) -> Result<Vec<u8>, AllocError
     Line::new(heap, b"fault")?
         .word(cause_word(report.memory.flash.cause))?
         .number(heap, number_of(report.memory.flash.asked))?
-        .long(report.memory.address)?
-        .byte(report.command)?
+        .hexadecimal(report.memory.address)?
+        .hexadecimal(report.command)?
         .finish()
 }
 

@@ -2,10 +2,12 @@
 #![tactic(auto)]
 
 pub mod decimal;
+mod forms;
 mod hexadecimal;
 mod output;
 mod words;
 
+pub use forms::{Form, Verb, parse};
 pub use hexadecimal::Hexadecimal;
 pub use output::Line;
-pub use words::{Words, is};
+pub use words::Words;

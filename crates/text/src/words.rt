@@ -1,9 +1,9 @@
 // The words of a line, one after the other.
 ghost use Rattle.std.specs.Prelude.{◌≡◌, ◌≤◌, IfSome, IfOk, Some, vec_items};
 ghost use Rattle.std.specs.Option.{option_map};
-ghost use Rattle.std.specs.Str.{bytes_eq};
 ghost use Rattle.text.specs.Cursor.{left};
 ghost use Rattle.text.specs.Digits.{byte_in, number_up_to};
+ghost use Rattle.text.specs.Grammar.{ended};
 ghost use Rattle.text.specs.Lines.{words_in, first_by, behind, all_by, wordless};
 
 use crate::decimal;
@@ -14,13 +14,6 @@ use std::alloc::{AllocError, Global};
 #[derive(Drop)]
 pub struct Words<'a> {
     rest: Option<&'a [u8]>,
-}
-
-// Whether a word is that text.
-pub fn is(word: &[u8], text: &[u8]) -> bool
-    ensures tells_whether_the_word_is_the_text { result ≡ bytes_eq word.now text.now }
-{
-    word == text
 }
 
 impl<'a> Words<'a> {
@@ -53,6 +46,13 @@ impl<'a> Words<'a> {
         ensures tells_whether_no_word_is_left { result ≡ wordless (left self.now) }
     {
         self.rest.is_none()
+    }
+
+    // The value, where no word is left.
+    pub fn ended<T: Drop>(&self, value: T) -> Option<T>
+        ensures is_the_value_where_no_word_is_left { result ≡ ended value (left self.now) }
+    {
+        if self.done() { Some(value) } else { None }
     }
 
     // The next word as a hexadecimal number, of as many digits as its type has room for.
