@@ -34,13 +34,12 @@ impl text::Verb for Verb {
 fn bytes_in(heap: Global, words: Words<'_>) -> Result<Option<Form>, AllocError>
     ensures reads_the_words_behind_in { IfOk result (λ o. option_map meant o ≡ asked_by Verb.In (left words.entry)) }
 {
-    let Some(bytes) = words.bytes(heap)? else {
-        return Ok(None);
-    };
-    if bytes.len() < 1 || bytes.len() > 522 {
-        return Ok(None);
-    }
-    Ok(Some(Form::In { bytes }))
+    let bytes = words.bytes(heap)?;
+    Ok(
+        bytes
+            .filter(|bytes| (1..=522).contains(&bytes.len()))
+            .map(|bytes| Form::In { bytes }),
+    )
 }
 
 // The words behind `work`.

@@ -116,10 +116,7 @@ fn answer(heap: Global, words: Words<'_>) -> Result<Option<Form>, AllocError>
 fn verdict(heap: Global, mut words: Words<'_>) -> Result<Option<Form>, AllocError>
     ensures { IfOk result (λ o. option_map meant o ≡ asked_by Verb.Verdict (left words.entry)) }
 {
-    let Some(level) = words.number(u32::MAX) else {
-        return Ok(None);
-    };
-    let Some(pages) = words.number(u32::MAX) else {
+    let (Some(level), Some(pages)) = (words.number(u32::MAX), words.number(u32::MAX)) else {
         return Ok(None);
     };
     Ok(

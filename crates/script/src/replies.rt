@@ -143,6 +143,6 @@ pub fn reply(heap: Global, line: &[u8]) -> Result<Vec<u8>, AllocError>
 {
     match parse(heap, line)? {
         Some(form) => answer_line(heap, &form),
-        None => Vec::from_slice(heap, b"(bad line)"),
+        None => b"(bad line)".to_vec(heap),
     }
 }

@@ -6,24 +6,9 @@ ghost use Rattle.text.specs.Grammar.{among, asked_by_verb, Spelling};
 ghost use Rattle.text.specs.Lines.{line_text};
 ghost use Rattle.text.specs.Texts.{Reads};
 
+use crate::verbs::Verb;
 use crate::words::Words;
 use std::alloc::{AllocError, Global};
-
-// A word that a line can begin with.
-pub trait Verb: Copy + 'static {
-    // its text, and all the verbs that there are
-    ghost spelled: { Self → List ℕ };
-
-    ghost every: { List Self };
-
-    // Its text.
-    fn text(self) -> &'static [u8]
-        ensures is_its_text { result.now ≡ spelled self };
-
-    // All the verbs that there are.
-    fn all() -> &'static [Self]
-        ensures are_all_the_verbs { result.now ≡ every };
-}
 
 // What a line asks for.
 pub trait Form: Drop {
@@ -50,13 +35,6 @@ pub trait Form: Drop {
     ghost reads_back: { Spelling Self.Verb.spelled (among Self.Verb.spelled Self.Verb.every) asked_by verb_for words_for fits };
 }
 
-// The verb whose text a word is.
-fn verb_of<V: Verb>(word: &[u8]) -> Option<V>
-    ensures is_the_verb_whose_text_the_word_is { result ≡ among V.spelled V.every word.now }
-{
-    V::all().iter().copied().find(|verb| word == verb.text())
-}
-
 // The form that a line is.
 pub fn parse<F: Form>(heap: Global, line: &[u8]) -> Result<Option<F>, AllocError>
     ensures reads_the_words_of_the_line { IfOk result (λ o. option_map F.meant o ≡ asked_by_verb (among F.Verb.spelled F.Verb.every) F.asked_by line.now) }
@@ -65,10 +43,7 @@ pub fn parse<F: Form>(heap: Global, line: &[u8]) -> Result<Option<F>, AllocError
     let Some(mut words) = Words::of(line) else {
         return Ok(None);
     };
-    let Some(word) = words.word() else {
-        return Ok(None);
-    };
-    let Some(verb) = verb_of(word) else {
+    let Some(verb) = words.verb() else {
         return Ok(None);
     };
     F::behind(heap, verb, words)

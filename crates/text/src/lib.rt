@@ -5,9 +5,11 @@ pub mod decimal;
 mod forms;
 mod hexadecimal;
 mod output;
+mod verbs;
 mod words;
 
-pub use forms::{Form, Verb, parse};
+pub use forms::{Form, parse};
 pub use hexadecimal::Hexadecimal;
 pub use output::Line;
+pub use verbs::Verb;
 pub use words::Words;

@@ -3,11 +3,12 @@ ghost use Rattle.std.specs.Prelude.{◌≡◌, ◌≤◌, IfSome, IfOk, Some, ve
 ghost use Rattle.std.specs.Option.{option_map};
 ghost use Rattle.text.specs.Cursor.{left};
 ghost use Rattle.text.specs.Digits.{byte_in, number_up_to};
-ghost use Rattle.text.specs.Grammar.{ended};
+ghost use Rattle.text.specs.Grammar.{among, ended};
 ghost use Rattle.text.specs.Lines.{words_in, first_by, behind, all_by, wordless};
 
 use crate::decimal;
 use crate::hexadecimal::Hexadecimal;
+use crate::verbs::{Verb, verb_of};
 use std::alloc::{AllocError, Global};
 
 // A reader of the words of one line. The words are parts of the line.
@@ -53,6 +54,14 @@ impl<'a> Words<'a> {
         ensures is_the_value_where_no_word_is_left { result ≡ ended value (left self.now) }
     {
         if self.done() { Some(value) } else { None }
+    }
+
+    // The next word as a verb.
+    pub fn verb<V: Verb>(&mut self) -> Option<V>
+        ensures is_the_first_word_as_a_verb { result ≡ first_by (among V.spelled V.every) (left self.old) }
+        ensures leaves_the_words_behind_it { left self.new ≡ behind (left self.old) }
+    {
+        verb_of(self.word()?)
     }
 
     // The next word as a hexadecimal number, of as many digits as its type has room for.

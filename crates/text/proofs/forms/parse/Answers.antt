@@ -5,14 +5,9 @@ use Rattle.text.specs.Grammar.{among, asked_by_verb}
 use Rattle.text.proofs.Asking.{line_reads}
 use Rattle.text.proofs.forms.parse.Goals as goal
 
-pub returns-in_default-word-clause-is_the_form_whose_text_the_line_is :
-    goal.returns-in_default-word-clause-is_the_form_whose_text_the_line_is
-returns-in_default-word-clause-is_the_form_whose_text_the_line_is g c =
-    line_reads _ _ _ _ _ _ g.met.F.Form.reads_back c.args.line.now _ (search rules)
-
-pub returns-in_default-verb_of-clause-is_the_form_whose_text_the_line_is :
-    goal.returns-in_default-verb_of-clause-is_the_form_whose_text_the_line_is
-returns-in_default-verb_of-clause-is_the_form_whose_text_the_line_is g c =
+pub returns-in_default-verb-clause-is_the_form_whose_text_the_line_is :
+    goal.returns-in_default-verb-clause-is_the_form_whose_text_the_line_is
+returns-in_default-verb-clause-is_the_form_whose_text_the_line_is g c =
     line_reads _ _ _ _ _ _ g.met.F.Form.reads_back c.args.line.now _ (search rules)
 
 pub returns-clause-is_the_form_whose_text_the_line_is : goal.returns-clause-is_the_form_whose_text_the_line_is

@@ -6,7 +6,7 @@ use Rattle.std.specs.Option.{option_map}
 use Rattle.std.specs.Str.{bytes_eq}
 use Rattle.text.specs.Grammar.{among}
 use Rattle.text.proofs.Asking.{among_found}
-use Rattle.text.proofs.forms.verb_of.Goals as goal
+use Rattle.text.proofs.verbs.verb_of.Goals as goal
 
 pub returns : goal.returns
 returns g c =
