@@ -1,13 +1,11 @@
 -- A text cut at its first blank.
-use Rattle.std.proofs.Common.{◌≡◌, ℕ, suc, ◌+◌, ◌<◌, ◌≤◌, Bool, true, false, cond, not, ◌==◌, eqb, List, [], ◌∷◌, ◌++◌, length, get_or, take, drop, ltb, position, is_some, Some, None, Option, sym, refl, ap, ◌∙◌, subst, arith, Bor}
+use Rattle.std.proofs.Common.{◌≡◌, ℕ, suc, ◌+◌, ◌<◌, ◌≤◌, Bool, true, false, cond, not, ◌==◌, eqb, List, [], ◌∷◌, length, take, drop, ltb, position, is_some, Some, None, Option, sym, refl, ap, ◌∙◌, subst, arith, Bor}
 use Rattle.std.proofs.lemmas.Bool.{cond_both, ltb-true, ltb-false}
-use Rattle.std.proofs.lemmas.List.{append_assoc}
 use Rattle.std.proofs.lemmas.List.Recursion.{is_position_or_len}
 use Rattle.std.specs.List.{position_or_len}
-use Rattle.std.specs.Option.{MatchOption, option_map}
+use Rattle.std.specs.Option.{MatchOption}
 use Rattle.text.specs.Cursor.{unread}
-use Rattle.text.specs.Digits.{byte_in}
-use Rattle.text.specs.Lines.{pieces, lengthened, first_by, behind, put_first, all_by, wordless}
+use Rattle.text.specs.Lines.{pieces, lengthened, wordless}
 
 -- how many bytes stand before the first blank
 abbrev pub before_blank : List ℕ → ℕ
@@ -65,20 +63,3 @@ first_cut o text end e p =
     (ap unread e ∙ cut_at_blank s (omega arith)
     ∙ (let next : suc (before_blank s) ≡ before_blank s + 1 = omega arith in ap (λ (n : ℕ). take (before_blank s) s ∷ pieces (drop n s)) next)))
     (λ t. ap unread e ∙ cut_at_end s (omega (arith, ltb-false _ _ t))))
-
--- the first word, whatever it is read as
-pub first_is : {X : Type 0} (p : List ℕ → Option X) (ws : List (List ℕ)) (w : List ℕ) → Some w ≡ first_by Some ws → p w ≡ first_by p ws
-first_is p [] w e = let z : ◌≡◌ {A = ℕ} 0 1 = cc in absurd (omega arith)
-first_is p (v ∷ ws) w e = let same : w ≡ v = cc in ap p same
-
--- one more byte at the end is one more before what is still to be read
-pub byte_more : (ws : List (List ℕ)) (w bs cs : List ℕ) (b : ℕ) (all : Option (List ℕ)) → Some w ≡ first_by Some ws → Some b ≡ byte_in w → cs ≡ bs ++ (b ∷ [])
-    → option_map (λ xs. bs ++ xs) (all_by byte_in ws) ≡ all → option_map (λ xs. cs ++ xs) (all_by byte_in (behind ws)) ≡ all
-byte_more [] w bs cs b all e h k i = let z : ◌≡◌ {A = ℕ} 0 1 = cc in absurd (omega arith)
-byte_more (v ∷ ws) w bs cs b all e h k i =
-    let same : byte_in v ≡ Some b = ap byte_in (let s : v ≡ w = cc in s) ∙ sym h in
-    pushed bs cs b k (all_by byte_in ws) ∙ sym (ap (λ o. option_map (λ xs. bs ++ xs) (put_first o (all_by byte_in ws))) same) ∙ i
-  where
-    pushed : (bs cs : List ℕ) (b : ℕ) → cs ≡ bs ++ (b ∷ []) → (o : Option (List ℕ)) → option_map (λ xs. cs ++ xs) o ≡ option_map (λ xs. bs ++ xs) (put_first (Some b) o)
-    pushed bs cs b k None = refl
-    pushed bs cs b k (Some xs) = ap Some (ap (λ ys. ys ++ xs) k ∙ append_assoc bs (b ∷ []) xs)

@@ -1,5 +1,5 @@
 -- Decimal digits: the number that they write, and the digits of a number.
-use Rattle.std.proofs.Common.{◌≡◌, ℕ, suc, ◌+◌, ◌-◌, ◌*◌, ◌^◌, ◌<◌, ◌≤◌, true, false, ◌&&◌, ltb, List, [], ◌∷◌, length, get_or, drop, Some, None, decimal, Option, sym, refl, ap, ◌∙◌, ⊎_elim, arith, rules}
+use Rattle.std.proofs.Common.{◌≡◌, ℕ, ◌+◌, ◌-◌, ◌*◌, ◌^◌, ◌<◌, ◌≤◌, true, false, ◌&&◌, ltb, List, [], ◌∷◌, length, get_or, drop, Some, None, decimal, Option, sym, ap, ◌∙◌, ⊎_elim, arith, rules}
 use Rattle.std.proofs.lemmas.Fmt.{decimal-digits_value, decimal_digit, decimal_nonempty, first_decimal, digits_decimal, digits_value-decimal}
 use Rattle.std.proofs.lemmas.List.{at_drop_more, at_drop_all}
 use Rattle.std.proofs.lemmas.Str.Parse.{IsNumeralModel, numerals_by_fold}
@@ -33,10 +33,6 @@ pub too_large_on : (w : List ℕ) (i v : ℕ) → i < length w → number_after 
     → None ≡ number_in w
 too_large_on w i v within e h =
     sym (too_large w (omega (arith, at_drop_more (number_after v) w i 0 within, e, grows (v * 10 + (get_or w i 0 - 48)) (drop (i + 1) w))))
-
--- a turn of the loop over the digits, and its end
-pub digit_more : (w : List ℕ) (i : ℕ) → i < length w → is_ascii_digit (get_or w i 0) ≡ true → all_ascii_digits (drop (i + 1) w) ≡ all_ascii_digits (drop i w)
-digit_more w i h e = sym (at_drop_more all_ascii_digits w i 0 h ∙ ap (λ b. b && all_ascii_digits (drop (i + 1) w)) e)
 
 pub digit_none : (w : List ℕ) (i : ℕ) → i < length w → is_ascii_digit (get_or w i 0) ≡ false → all_ascii_digits (drop i w) ≡ false
 digit_none w i h e = at_drop_more all_ascii_digits w i 0 h ∙ ap (λ b. b && all_ascii_digits (drop (i + 1) w)) e
