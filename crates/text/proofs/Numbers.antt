@@ -34,6 +34,7 @@ pub too_large_on : (w : List ℕ) (i v : ℕ) → i < length w → number_after 
 too_large_on w i v within e h =
     sym (too_large w (omega (arith, at_drop_more (number_after v) w i 0 within, e, grows (v * 10 + (get_or w i 0 - 48)) (drop (i + 1) w))))
 
+-- what a loop over the digits knows at a byte that is none, and at its end
 pub digit_none : (w : List ℕ) (i : ℕ) → i < length w → is_ascii_digit (get_or w i 0) ≡ false → all_ascii_digits (drop i w) ≡ false
 digit_none w i h e = at_drop_more all_ascii_digits w i 0 h ∙ ap (λ b. b && all_ascii_digits (drop (i + 1) w)) e
 

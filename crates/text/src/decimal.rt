@@ -8,7 +8,7 @@ pub fn number(word: &[u8]) -> Option<u32>
     ensures reads_decimal_digits { result ≡ number_in word.now }
     ensures is_the_number_whose_text_the_word_is { Reads decimal (λ n. n < 2 ^ 32) word.now result }
 {
-    if word.is_empty() || word[0] == b'0' && word.len() != 1 {
+    if let [] | [b'0', _, ..] = word {
         return None;
     }
     let mut value: u32 = 0;

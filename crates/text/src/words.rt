@@ -53,7 +53,7 @@ impl<'a> Words<'a> {
     pub fn ended<T: Drop>(&self, value: T) -> Option<T>
         ensures is_the_value_where_no_word_is_left { result ≡ ended value (left self.now) }
     {
-        if self.done() { Some(value) } else { None }
+        self.done().then_some(value)
     }
 
     // The next word as a verb.
@@ -78,11 +78,7 @@ impl<'a> Words<'a> {
         ensures is_at_most_so_much { IfSome result (λ n. n ≤ most) }
         ensures leaves_the_words_behind_it { left self.new ≡ behind (left self.old) }
     {
-        let number = decimal::number(self.word()?)?;
-        if number > most {
-            return None;
-        }
-        Some(number)
+        decimal::number(self.word()?).filter(|number| *number <= most)
     }
 
     // All the words that are left, each as a number of two hexadecimal digits.

@@ -6,11 +6,11 @@ use Rattle.text.proofs.Numbers.{no_digits, too_large_on, is_number, all_read, di
 use Rattle.text.proofs.Spelled.{number_reads}
 use Rattle.text.proofs.decimal.number.Goals as goal
 
-pub returns-then-is_empty : goal.returns-then-is_empty
-returns-then-is_empty c =
-    let w = c.args.word.now in
-    let e : None ≡ number_in w = grind (arith, common_steps) in
-    record { reads_decimal_digits = e; is_the_number_whose_text_the_word_is = number_reads w _ e }
+pub returns-in-empty-clause-is_the_number_whose_text_the_word_is : goal.returns-in-empty-clause-is_the_number_whose_text_the_word_is
+returns-in-empty-clause-is_the_number_whose_text_the_word_is c = number_reads c.args.word.now _ (grind (arith, common_steps))
+
+pub returns-in-empty-2-clause-is_the_number_whose_text_the_word_is : goal.returns-in-empty-2-clause-is_the_number_whose_text_the_word_is
+returns-in-empty-2-clause-is_the_number_whose_text_the_word_is c = number_reads c.args.word.now _ (grind (arith, common_steps))
 
 pub returns-then-not-is_ascii_digit : goal.returns-then-not-is_ascii_digit
 returns-then-not-is_ascii_digit c =
