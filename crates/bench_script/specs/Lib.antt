@@ -1,3 +1,4 @@
 pub mod Forms
 pub mod Grammar
 pub mod Saying
+pub mod Spelled

@@ -45,8 +45,8 @@ fn report_line(heap: Global, report: CommandFault) -> Result<Vec<u8>, AllocError
     Line::new(heap, b"fault")?
         .word(cause_word(report.memory.flash.cause))?
         .number(heap, number_of(report.memory.flash.asked))?
-        .long(report.memory.address)?
-        .byte(report.command)?
+        .hexadecimal(report.memory.address)?
+        .hexadecimal(report.command)?
         .finish()
 }
 
@@ -56,7 +56,7 @@ fn fault_line(heap: Global, report: Option<CommandFault>) -> Result<Vec<u8>, All
 {
     match report {
         Some(report) => report_line(heap, report),
-        None => Vec::from_slice(heap, b"(fault none)"),
+        None => b"(fault none)".to_vec(heap),
     }
 }
 
@@ -64,13 +64,14 @@ fn fault_line(heap: Global, report: Option<CommandFault>) -> Result<Vec<u8>, All
 pub fn said_line(heap: Global, said: Said) -> Result<Vec<u8>, AllocError>
     ensures is_the_line_of_what_is_said { IfOk result (λ v. v.items ≡ line_of said) }
 {
-    match said {
-        Said::Taken => Vec::from_slice(heap, b"(taken)"),
-        Said::Idle => Vec::from_slice(heap, b"(idle)"),
-        Said::Going => Vec::from_slice(heap, b"(going)"),
-        Said::Reset => Vec::from_slice(heap, b"(reset)"),
-        Said::NoTicket => Vec::from_slice(heap, b"(no ticket)"),
-        Said::BadLine => Vec::from_slice(heap, b"(bad line)"),
-        Said::Fault { report } => fault_line(heap, report),
-    }
+    let text: &[u8] = match said {
+        Said::Taken => b"(taken)",
+        Said::Idle => b"(idle)",
+        Said::Going => b"(going)",
+        Said::Reset => b"(reset)",
+        Said::NoTicket => b"(no ticket)",
+        Said::BadLine => b"(bad line)",
+        Said::Fault { report } => return fault_line(heap, report),
+    };
+    text.to_vec(heap)
 }

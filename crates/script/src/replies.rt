@@ -20,7 +20,7 @@ use text::Line;
 fn code_line(heap: Global, word: &[u8], code: Code) -> Result<Vec<u8>, AllocError>
     ensures { IfOk result (λ v. v.items ≡ line_text word.now (hex_byte (code_byte code) ∷ [])) }
 {
-    Line::new(heap, word)?.byte(code.byte())?.finish()
+    Line::new(heap, word)?.hexadecimal(code.byte())?.finish()
 }
 
 // A local refusal.
@@ -66,7 +66,7 @@ fn said_line(heap: Global, frame: &[u8]) -> Result<Vec<u8>, AllocError>
 {
     match read_answer(frame) {
         Ok(answer) => Line::new(heap, b"code")?
-            .byte(answer.code.byte())?
+            .hexadecimal(answer.code.byte())?
             .bytes(answer.bytes)?
             .finish(),
         Err(local) => local_line(heap, local),
@@ -143,6 +143,6 @@ pub fn reply(heap: Global, line: &[u8]) -> Result<Vec<u8>, AllocError>
 {
     match parse(heap, line)? {
         Some(form) => answer_line(heap, &form),
-        None => Vec::from_slice(heap, b"(bad line)"),
+        None => b"(bad line)".to_vec(heap),
     }
 }

@@ -1,15 +1,14 @@
 -- What a line asks for is read back from its text, and is all that is read: of any verbs, and of anything that a line can ask for.
-use Rattle.std.proofs.Common.{◌≡◌, ℕ, zero, suc, ◌<◌, List, [], ◌∷◌, map, get_or, Some, None, Option, sym, refl, ap, ◌∙◌, subst, ap₂, arith}
+use Rattle.std.proofs.Common.{◌≡◌, ℕ, zero, suc, ◌<◌, cond, find, List, [], ◌∷◌, map, get_or, Some, None, Option, sym, refl, ap, ◌∙◌, subst, ap₂, arith}
 use Rattle.std.proofs.lemmas.Slice.Eq.{bytes_eq-Decides}
 use Rattle.std.proofs.lemmas.Bool.{cond_both}
 use Rattle.std.specs.Option.{option_map}
-use Rattle.std.specs.List.{AllByRecursion as All}
 use Rattle.std.specs.Str.{bytes_eq}
 use Rattle.text.specs.Digits.{hex_byte, byte_in}
-use Rattle.text.specs.Grammar.{among, given, taken, ended, bytes_taken, asked_or_none, asked_by_verb}
+use Rattle.text.specs.Grammar.{among, given, taken, ended, bytes_taken, asked_or_none, asked_by_verb, Spelling}
 use Rattle.text.specs.Lines.{put_first, all_by, line_text, words_in}
 use Rattle.text.specs.Texts.{Reads}
-use Rattle.text.proofs.Separated.{Plain, words_back, words_only}
+use Rattle.text.proofs.Separated.{words_back, words_only}
 use Rattle.text.proofs.Spelled.{reads_from, byte_back, byte_only}
 
 -- ---- the first word
@@ -20,6 +19,14 @@ among_only text (u ∷ us) w v e =
     (λ t k. let same : v ≡ u = cc in ap text same ∙ sym ((bytes_eq-Decides w (text u)).0 t))
     (λ t k. among_only text us w v k)
     e
+
+-- the verb that is looked for is the first of them
+pub among_found : {V : Type 0} (text : V → List ℕ) (vs : List V) (w : List ℕ) (o : Option V) → option_map (λ v. v) o ≡ find (λ v. bytes_eq w (text v)) vs → o ≡ among text vs w
+among_found {V} text vs w o e = (elim o as (λ o. o ≡ option_map (λ v. v) o) [ None ↦ refl | Some v ↦ refl ]) ∙ e ∙ same vs
+  where
+    same : (vs : List V) → find (λ v. bytes_eq w (text v)) vs ≡ among text vs w
+    same [] = refl
+    same (v ∷ vs) = ap (cond (bytes_eq w (text v)) (Some v)) (same vs)
 
 -- ---- the words behind it, forwards
 pub bytes_back : (bs : List ℕ) → ((i : ℕ) → get_or bs i 0 < 256) → all_by byte_in (map hex_byte bs) ≡ Some bs
@@ -82,16 +89,6 @@ bytes_taken_only f ws a e =
     (p.0, p.2, q.0, q.1)
 
 -- ---- a whole line
-
--- verbs with their texts, and what is asked for with its verb, its words and its limits: read back, and all that is read
-pub record Spelling {V A : Type 0} (verb_text : V → List ℕ) (verb_in : List ℕ → Option V) (asked_by : V → List (List ℕ) → Option A)
-    (verb_for : A → V) (words_for : A → List (List ℕ)) (fits : A → Type 0) : Type 0 where
-  pub plain_verb : (v : V) → Plain (verb_text v)
-  pub plain_words : (a : A) → fits a → All Plain (words_for a)
-  pub verb_back : (v : V) → verb_in (verb_text v) ≡ Some v
-  pub verb_only : (w : List ℕ) (v : V) → verb_in w ≡ Some v → verb_text v ≡ w
-  pub asked_back : (a : A) → fits a → asked_by (verb_for a) (words_for a) ≡ Some a
-  pub asked_only : (v : V) (ws : List (List ℕ)) (a : A) → asked_by v ws ≡ Some a → (verb_for a ≡ v) × (words_for a ≡ ws) × fits a
 
 words_some : {A : Type 0} (asked : List (List ℕ) → Option A) (o : Option (List (List ℕ))) (a : A) → asked_or_none asked o ≡ Some a
     → (ws : List (List ℕ)) × (o ≡ Some ws) × (asked ws ≡ Some a)

@@ -1,7 +1,6 @@
 -- Decimal digits: the number that they write, and the digits of a number.
-use Rattle.std.proofs.Common.{◌≡◌, ℕ, suc, ◌+◌, ◌*◌, ◌^◌, ◌<◌, ◌≤◌, true, false, ◌&&◌, ltb, List, length, get_or, drop, Some, None, decimal, Option, sym, refl, ap, ◌∙◌, ⊎_elim, pow-suc, arith, rules}
-use native.Mathlib.Nat.{pow-le-pow_right}
-use Rattle.std.proofs.lemmas.Fmt.{decimal-digits_value, length-decimal-le, decimal_digit, decimal_nonempty, first_decimal, digits_decimal, digits_value-decimal}
+use Rattle.std.proofs.Common.{◌≡◌, ℕ, ◌+◌, ◌-◌, ◌*◌, ◌^◌, ◌<◌, ◌≤◌, true, false, ◌&&◌, ltb, List, [], ◌∷◌, length, get_or, drop, Some, None, decimal, Option, sym, ap, ◌∙◌, ⊎_elim, arith, rules}
+use Rattle.std.proofs.lemmas.Fmt.{decimal-digits_value, decimal_digit, decimal_nonempty, first_decimal, digits_decimal, digits_value-decimal}
 use Rattle.std.proofs.lemmas.List.{at_drop_more, at_drop_all}
 use Rattle.std.proofs.lemmas.Str.Parse.{IsNumeralModel, numerals_by_fold}
 use Rattle.std.proofs.lemmas.Bool.{and_parts, and_from, and_left, and_right, cond-true, cond-false, cond_both, cases_lt, le-leb, lt-ltb, ltb-true, le-ltb}
@@ -18,43 +17,24 @@ own = numerals_by_fold _ (search rules) number_after (search rules)
 pub decimal_back : (w : List ℕ) → all_ascii_digits w ≡ true → no_leading_zeros w ≡ true → number_after 0 w < 2 ^ 32 → decimal (number_after 0 w) ≡ w
 decimal_back w d l h = decimal-digits_value own w d (grind (arith, nat_tests)) (λ z. grind (arith, nat_tests)) (omega arith)
 
-pub short_enough : (w : List ℕ) → all_ascii_digits w ≡ true → no_leading_zeros w ≡ true → number_after 0 w < 2 ^ 32 → length w ≤ 10
-short_enough w d l h =
-    let e = ap length (decimal_back w d l h) in
-    omega (arith, length-decimal-le 10 (number_after 0 w) (omega arith) (omega arith) (omega arith), e)
-
--- the three ways in which a word is no number
+-- the ways in which a word is no number
 pub no_digits : (w : List ℕ) → all_ascii_digits w ≡ false → number_in w ≡ None
 no_digits w e = cond-false _ _ _ (and_left _ _ e)
 
-pub leading_zeros : (w : List ℕ) → no_leading_zeros w ≡ false → number_in w ≡ None
-leading_zeros w e = cond-false _ _ _ (and_right (all_ascii_digits w) _ (and_left _ _ e))
-
-pub too_large : (w : List ℕ) → 2 ^ 32 ≤ number_after 0 w → number_in w ≡ None
+too_large : (w : List ℕ) → 2 ^ 32 ≤ number_after 0 w → number_in w ≡ None
 too_large w h = cond-false _ _ _ (and_right (all_ascii_digits w) _ (and_right (no_leading_zeros w) _ (le-ltb _ _ h)))
 
-pub too_long : (w : List ℕ) → 10 < length w → number_in w ≡ None
-too_long w h =
-    cond_both (all_ascii_digits w && (no_leading_zeros w && ltb (number_after 0 w) 4294967296)) (Some (number_after 0 w)) None (λ x. x ≡ None)
-    (λ e.
-    let p = and_parts (all_ascii_digits w) _ e in
-    let q = and_parts (no_leading_zeros w) _ p.1 in
-    absurd (omega (arith, short_enough w p.0 q.0 (ltb-true _ _ q.1))))
-    (λ e. refl)
+-- more digits make no smaller number, so one that is too large stays so
+grows : (n : ℕ) (w : List ℕ) → n ≤ number_after n w
+grows n [] = omega arith
+grows n (c ∷ cs) = omega (arith, grows (n * 10 + (c - 48)) cs)
 
--- one digit more
-pub grown : (v i d : ℕ) → v < 10 ^ i → d < 10 → v * 10 + d < 10 ^ (i + 1)
-grown v i d h k =
-    let e : 10 ^ (i + 1) ≡ 10 ^ i * 10 = (let s : i + 1 ≡ suc i = omega arith in ap (λ (n : ℕ). 10 ^ n) s) ∙ pow-suc 10 i in
-    omega (arith, e)
+pub too_large_on : (w : List ℕ) (i v : ℕ) → i < length w → number_after v (drop i w) ≡ number_after 0 w → 2 ^ 32 ≤ v * 10 + (get_or w i 0 - 48)
+    → None ≡ number_in w
+too_large_on w i v within e h =
+    sym (too_large w (omega (arith, at_drop_more (number_after v) w i 0 within, e, grows (v * 10 + (get_or w i 0 - 48)) (drop (i + 1) w))))
 
-pub nine_digits : (v i : ℕ) → v < 10 ^ i → i ≤ 9 → v < 1000000000
-nine_digits v i h k = omega (arith, pow-le-pow_right {n = 10} (omega arith) k)
-
--- a turn of the loop over the digits, and its end
-pub digit_more : (w : List ℕ) (i : ℕ) → i < length w → is_ascii_digit (get_or w i 0) ≡ true → all_ascii_digits (drop (i + 1) w) ≡ all_ascii_digits (drop i w)
-digit_more w i h e = sym (at_drop_more all_ascii_digits w i 0 h ∙ ap (λ b. b && all_ascii_digits (drop (i + 1) w)) e)
-
+-- what a loop over the digits knows at a byte that is none, and at its end
 pub digit_none : (w : List ℕ) (i : ℕ) → i < length w → is_ascii_digit (get_or w i 0) ≡ false → all_ascii_digits (drop i w) ≡ false
 digit_none w i h e = at_drop_more all_ascii_digits w i 0 h ∙ ap (λ b. b && all_ascii_digits (drop (i + 1) w)) e
 

@@ -8,7 +8,7 @@ use Rattle.std.proofs.lemmas.Bool.Decides.{nat_tests}
 use Rattle.std.specs.List.{AllByRecursion as All}
 use Rattle.text.specs.Digits.{hex_digit, hex_byte, hex_short, hex_long}
 use Rattle.text.proofs.Numbers.{own}
-use Rattle.text.proofs.Separated.{Plain}
+use Rattle.text.specs.Lines.{Plain}
 
 plain_digit : (d : ℕ) → hex_digit d ≡ 32 → ⊥
 plain_digit d e = grind (arith, nat_tests)

@@ -4,12 +4,8 @@ use Rattle.std.proofs.lemmas.List.{append_assoc, append-nil, length-append, leng
 use Rattle.std.proofs.lemmas.Bool.{cond_both, cond-true, cond-false, ne_eqb, and_parts, and_from, eqb-true, leb-true, le-leb, eq-eqb}
 use Rattle.std.specs.Option.{option_map}
 use Rattle.std.specs.List.{AllByRecursion as All}
-use Rattle.text.specs.Lines.{more_words, line_text, lengthened, pieces, inside, words_in, wordless}
+use Rattle.text.specs.Lines.{Plain, more_words, line_text, lengthened, pieces, inside, words_in, wordless}
 use Rattle.text.proofs.Cuts.{pieces_some}
-
--- a word with no blank in it
-abbrev pub Plain : List ℕ → Type 0
-Plain w = All (λ c. c ≡ 32 → ⊥) w
 
 -- some words with a blank between any two
 abbrev pub spaced : List (List ℕ) → List ℕ

@@ -1,9 +1,10 @@
 -- Numbers read back from their digits, and are all that is read.
-use Rattle.std.proofs.Common.{◌≡◌, ℕ, ◌+◌, ◌*◌, ◌/◌, ◌%◌, ◌^◌, ◌<◌, cond, eqb, List, [], ◌∷◌, ◌++◌, length, get_or, take, drop, IfSome, Some, None, decimal, Option, sym, refl, ap, ◌∙◌, ap₂, arith}
-use Rattle.std.proofs.lemmas.List.{take-append-drop, take_all, length-drop}
-use Rattle.std.proofs.lemmas.Bool.{cond-true, eq-eqb}
+use Rattle.std.proofs.Common.{◌≡◌, ℕ, ◌+◌, ◌*◌, ◌/◌, ◌%◌, ◌^◌, ◌<◌, cond, eqb, List, [], ◌∷◌, ◌++◌, length, get_or, take, drop, IfSome, Some, None, decimal, Option, sym, refl, ap, ◌∙◌, ap₂, ⊎_elim, arith}
+use Rattle.std.proofs.lemmas.List.{take-append-drop, length-take-le, length-drop}
+use Rattle.std.proofs.lemmas.Bool.{cond_both, cond-false, cases_eq, ne_eqb, eqb-true, eqb-false}
 use Rattle.std.proofs.lemmas.Bool.Decides.{nat_tests}
-use Rattle.text.specs.Digits.{hex_digit, hex_byte, hex_short, hex_long, digit_in, both, byte_in, short_in, long_in, number_in}
+use Rattle.std.specs.Option.{option_map}
+use Rattle.text.specs.Digits.{hex_digit, hex_byte, hex_short, hex_long, digit_in, both, paired, byte_in, short_in, long_in, number_in}
 use Rattle.text.specs.Texts.{Reads}
 use Rattle.text.proofs.Numbers.{number_back, number_only}
 
@@ -32,14 +33,43 @@ low_none : (k : ℕ) (h : Option ℕ) → both k h None ≡ None
 low_none k None = refl
 low_none k (Some x) = refl
 
-pub long_low_none : (w : List ℕ) → length w ≡ 8 → None ≡ short_in (take 4 (drop 4 w)) → None ≡ long_in w
-long_low_none w h e =
-    let rest : take 4 (drop 4 w) ≡ drop 4 w = take_all 4 (drop 4 w) (simp length-drop (omega arith)) in
-    sym
-    (cond-true _ _ _ (eq-eqb (length w) 8 h)
-    ∙ ap (both 65536 (short_in (take 4 w))) (ap short_in (sym rest) ∙ sym e)
-    ∙ low_none 65536 (short_in (take 4 w))
-    )
+-- two numbers that were read of the halves of a word are the number that the word stands for, where only words of so many digits are read
+halves_joined : (k n : ℕ) (in_half : List ℕ → Option ℕ) → ((w : List ℕ) → (length w ≡ n → ⊥) → in_half w ≡ None)
+    → (w : List ℕ) (r : Option (ℕ × ℕ)) → r ≡ paired (in_half (take (length w / 2) w)) (in_half (drop (length w / 2) w))
+    → option_map (λ p. p.0 * k + p.1) r ≡ cond (eqb (length w) (n + n)) (both k (in_half (take n w)) (in_half (drop n w))) None
+halves_joined k n in_half none w r e =
+    let h : ℕ = length w / 2 in
+    ap (option_map (λ p. p.0 * k + p.1)) e ∙ joined (in_half (take h w)) (in_half (drop h w))
+    ∙ cond_both (eqb (length w) (n + n)) (both k (in_half (take n w)) (in_half (drop n w))) None
+    (λ r. both k (in_half (take h w)) (in_half (drop h w)) ≡ r)
+    (λ t.
+    let whole = eqb-true _ _ t in
+    (let half : h ≡ n = omega arith in ap (λ (m : ℕ). both k (in_half (take m w)) (in_half (drop m w))) half))
+    (λ t.
+    let other = eqb-false _ _ t in
+    ⊎_elim
+    (λ same. ap (both k (in_half (take h w))) (none (drop h w) (λ e. other (omega (arith, length-drop h w, e)))) ∙ low_none k (in_half (take h w)))
+    (λ apart. ap (λ o. both k o (in_half (drop h w))) (none (take h w) (λ e. apart (omega (arith, length-take-le h w (omega arith), e)))))
+    (cases_eq h n))
+  where
+    joined : (h l : Option ℕ) → option_map (λ p. p.0 * k + p.1) (paired h l) ≡ both k h l
+    joined None l = refl
+    joined (Some x) None = refl
+    joined (Some x) (Some y) = refl
+
+byte_none : (w : List ℕ) → (length w ≡ 2 → ⊥) → byte_in w ≡ None
+byte_none w h = cond-false _ _ _ (ne_eqb (length w) 2 h)
+
+short_none : (w : List ℕ) → (length w ≡ 4 → ⊥) → short_in w ≡ None
+short_none w h = cond-false _ _ _ (ne_eqb (length w) 4 h)
+
+pub short_halves : (w : List ℕ) (r : Option (ℕ × ℕ)) → r ≡ paired (byte_in (take (length w / 2) w)) (byte_in (drop (length w / 2) w))
+    → option_map (λ p. p.0 * 256 + p.1) r ≡ short_in w
+short_halves = halves_joined 256 2 byte_in byte_none
+
+pub long_halves : (w : List ℕ) (r : Option (ℕ × ℕ)) → r ≡ paired (short_in (take (length w / 2) w)) (short_in (drop (length w / 2) w))
+    → option_map (λ p. p.0 * 65536 + p.1) r ≡ long_in w
+long_halves = halves_joined 65536 4 short_in short_none
 
 -- what was read of a word of so many bytes
 read_some : (w : List ℕ) (k : ℕ) (o : Option ℕ) (n : ℕ) → cond (eqb (length w) k) o None ≡ Some n → (length w ≡ k) × (o ≡ Some n)

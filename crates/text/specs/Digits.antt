@@ -31,6 +31,12 @@ both k None low = None
 both k (Some h) None = None
 both k (Some h) (Some l) = Some (h * k + l)
 
+-- two things, where both are there
+abbrev pub paired : {X : Type 0} → Option X → Option X → Option (X × X)
+paired None low = None
+paired (Some h) None = None
+paired (Some h) (Some l) = Some (h, l)
+
 -- the number that a word of two, four or eight digits stands for
 abbrev pub byte_in : List ℕ → Option ℕ
 byte_in w = cond (length w == 2) (both 16 (digit_in (slice_index w 0)) (digit_in (slice_index w 1))) None

@@ -1,7 +1,11 @@
 -- A line of words: `(`, which is 40, the words with one blank, 32, between any two, and `)`, which is 41.
-use Rattle.std.specs.Prelude.{ℕ, suc, ◌-◌, Bool, true, false, cond, ◌&&◌, List, [], ◌∷◌, ◌++◌, length, take, drop, Some, None, Option, ◌==◌, nat_le, slice_index}
-use Rattle.std.specs.List.{flat_map}
+use Rattle.std.specs.Prelude.{◌≡◌, ℕ, ◌-◌, Bool, true, false, cond, ◌&&◌, List, [], ◌∷◌, ◌++◌, length, take, drop, Some, None, Option, ◌==◌, nat_le, slice_index}
+use Rattle.std.specs.List.{flat_map, AllByRecursion as All}
 use Rattle.std.specs.Option.{option_map}
+
+-- a word with no blank in it
+abbrev pub Plain : List ℕ → Type 0
+Plain w = All (λ c. c ≡ 32 → ⊥) w
 
 -- some more words, each behind a blank
 abbrev pub more_words : List (List ℕ) → List ℕ
@@ -20,11 +24,6 @@ lengthened c (w ∷ ws) = (c ∷ w) ∷ ws
 abbrev pub pieces : List ℕ → List (List ℕ)
 pieces [] = [] ∷ []
 pieces (c ∷ cs) = cond (c == 32) ([] ∷ pieces cs) (lengthened c (pieces cs))
-
--- how many bytes stand before the first blank
-abbrev pub before_blank : List ℕ → ℕ
-before_blank [] = 0
-before_blank (c ∷ cs) = cond (c == 32) 0 (suc (before_blank cs))
 
 -- what a line has between `(` and `)`
 abbrev pub inside : List ℕ → Option (List ℕ)

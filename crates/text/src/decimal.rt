@@ -8,22 +8,15 @@ pub fn number(word: &[u8]) -> Option<u32>
     ensures reads_decimal_digits { result ≡ number_in word.now }
     ensures is_the_number_whose_text_the_word_is { Reads decimal (λ n. n < 2 ^ 32) word.now result }
 {
-    if word.len() == 0 || word.len() > 10 {
+    if let [] | [b'0', _, ..] = word {
         return None;
     }
-    if word[0] == b'0' && word.len() != 1 {
-        return None;
-    }
-    let mut value: u64 = 0;
+    let mut value: u32 = 0;
     for c in word {
         if !c.is_ascii_digit() {
             return None;
         }
-        value = value * 10 + (*c - b'0') as u64;
+        value = value.checked_mul(10)?.checked_add((*c - b'0') as u32)?;
     }
-    if value > 0xFFFF_FFFF {
-        None
-    } else {
-        Some(value as u32)
-    }
+    Some(value)
 }

@@ -1,10 +1,31 @@
 // Hexadecimal numbers of a fixed width, in upper-case digits.
-ghost use Rattle.std.specs.Prelude.{◌≡◌, ◌^◌, ◌<◌};
-ghost use Rattle.text.specs.Digits.{hex_byte, hex_short, hex_long, digit_in, byte_in, short_in, long_in};
+ghost use Rattle.std.specs.Prelude.{◌≡◌, ℕ, ◌^◌, ◌<◌, ◌/◌, List, ◌++◌, Option, length, take, drop, OnOk};
+ghost use Rattle.text.specs.Digits.{hex_digit, hex_byte, hex_short, hex_long, digit_in, byte_in, short_in, long_in, paired};
 ghost use Rattle.text.specs.Texts.{Reads};
 
+use std::alloc::AllocError;
+
+// A number that is written in as many digits as numbers of its type can have.
+pub trait Hexadecimal: Drop {
+    // the digits of a number, the number that a word of digits stands for, and how large the numbers are
+    ghost digits: { Self → List ℕ };
+
+    ghost number_in: { List ℕ → Option Self };
+
+    ghost fits: { Self → Type 0 };
+
+    // The number that a word of digits stands for.
+    fn read(word: &[u8]) -> Option<Self>
+        ensures reads_the_digits { result ≡ number_in word.now }
+        ensures is_the_number_whose_text_the_word_is { Reads digits fits word.now result };
+
+    // The digits of the number, put behind a text.
+    fn write(self, text: &mut Vec<u8>) -> Result<(), AllocError>
+        ensures puts_the_digits_behind_the_text { OnOk result (text.new.items ≡ text.old.items ++ digits self) };
+}
+
 // The number that a digit stands for.
-fn digit(c: u8) -> Option<u8>
+fn digit_of(c: u8) -> Option<u8>
     ensures { result ≡ digit_in c }
 {
     match c {
@@ -14,41 +35,83 @@ fn digit(c: u8) -> Option<u8>
     }
 }
 
-// The number that a word of two digits stands for.
-pub fn byte(word: &[u8]) -> Option<u8>
-    ensures reads_two_digits { result ≡ byte_in word.now }
-    ensures is_the_number_whose_text_the_word_is { Reads hex_byte (λ n. n < 2 ^ 8) word.now result }
+// The digit of a number below 16.
+fn digit(number: u8) -> u8
+    requires { number < 16 }
+    ensures { result ≡ hex_digit number }
 {
-    if word.len() != 2 {
-        return None;
+    if number < 10 {
+        b'0' + number
+    } else {
+        b'A' + (number - 10)
     }
-    let high = digit(word[0])?;
-    let low = digit(word[1])?;
-    Some(high * 16 + low)
 }
 
-// The number that a word of four digits stands for.
-pub fn short(word: &[u8]) -> Option<u16>
-    ensures reads_four_digits { result ≡ short_in word.now }
-    ensures is_the_number_whose_text_the_word_is { Reads hex_short (λ n. n < 2 ^ 16) word.now result }
+// The numbers that the two halves of a word stand for.
+fn halves<H: Hexadecimal>(word: &[u8]) -> Option<(H, H)>
+    ensures reads_both_halves { result ≡ paired (H.number_in (take (length word.now / 2) word.now)) (H.number_in (drop (length word.now / 2) word.now)) }
 {
-    if word.len() != 4 {
-        return None;
-    }
-    let high = byte(&word[0..2])?;
-    let low = byte(&word[2..4])?;
-    Some(high as u16 * 256 + low as u16)
+    let (high, low) = word.split_at(word.len() / 2);
+    Some((H::read(high)?, H::read(low)?))
 }
 
-// The number that a word of eight digits stands for.
-pub fn long(word: &[u8]) -> Option<u32>
-    ensures reads_eight_digits { result ≡ long_in word.now }
-    ensures is_the_number_whose_text_the_word_is { Reads hex_long (λ n. n < 2 ^ 32) word.now result }
-{
-    if word.len() != 8 {
-        return None;
+impl Hexadecimal for u8 {
+    ghost digits = { hex_byte };
+
+    ghost number_in = { byte_in };
+
+    ghost fits = { λ n. n < 2 ^ 8 };
+
+    fn read(word: &[u8]) -> Option<u8> {
+        let [high, low] = word else {
+            return None;
+        };
+        let (high, low) = (digit_of(*high)?, digit_of(*low)?);
+        Some(high * 16 + low)
     }
-    let high = short(&word[0..4])?;
-    let low = short(&word[4..8])?;
-    Some(high as u32 * 65536 + low as u32)
+
+    fn write(self, text: &mut Vec<u8>) -> Result<(), AllocError> {
+        let (high, low) = (self / 16, self % 16);
+        text.push(digit(high))?;
+        text.push(digit(low))?;
+        Ok(())
+    }
+}
+
+impl Hexadecimal for u16 {
+    ghost digits = { hex_short };
+
+    ghost number_in = { short_in };
+
+    ghost fits = { λ n. n < 2 ^ 16 };
+
+    fn read(word: &[u8]) -> Option<u16> {
+        let (high, low) = halves::<u8>(word)?;
+        Some(high as u16 * 256 + low as u16)
+    }
+
+    fn write(self, text: &mut Vec<u8>) -> Result<(), AllocError> {
+        let (high, low) = (self / 256, self % 256);
+        (high as u8).write(text)?;
+        (low as u8).write(text)
+    }
+}
+
+impl Hexadecimal for u32 {
+    ghost digits = { hex_long };
+
+    ghost number_in = { long_in };
+
+    ghost fits = { λ n. n < 2 ^ 32 };
+
+    fn read(word: &[u8]) -> Option<u32> {
+        let (high, low) = halves::<u16>(word)?;
+        Some(high as u32 * 65536 + low as u32)
+    }
+
+    fn write(self, text: &mut Vec<u8>) -> Result<(), AllocError> {
+        let (high, low) = (self / 65536, self % 65536);
+        (high as u16).write(text)?;
+        (low as u16).write(text)
+    }
 }

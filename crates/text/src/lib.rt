@@ -2,9 +2,14 @@
 #![tactic(auto)]
 
 pub mod decimal;
-pub mod hexadecimal;
+mod forms;
+mod hexadecimal;
 mod output;
+mod verbs;
 mod words;
 
+pub use forms::{Form, parse};
+pub use hexadecimal::Hexadecimal;
 pub use output::Line;
-pub use words::{Words, is};
+pub use verbs::Verb;
+pub use words::Words;

@@ -1,12 +1,14 @@
 // The words of a line, one after the other.
-ghost use Rattle.std.specs.Prelude.{◌≡◌, ◌≤◌, length, IfSome, IfOk, Some, vec_items};
+ghost use Rattle.std.specs.Prelude.{◌≡◌, ◌≤◌, IfSome, IfOk, Some, vec_items};
 ghost use Rattle.std.specs.Option.{option_map};
-ghost use Rattle.std.specs.Str.{bytes_eq};
 ghost use Rattle.text.specs.Cursor.{left};
-ghost use Rattle.text.specs.Digits.{byte_in, short_in, long_in, number_up_to};
-ghost use Rattle.text.specs.Lines.{before_blank, words_in, first_by, behind, all_by, wordless};
+ghost use Rattle.text.specs.Digits.{byte_in, number_up_to};
+ghost use Rattle.text.specs.Grammar.{among, ended};
+ghost use Rattle.text.specs.Lines.{words_in, first_by, behind, all_by, wordless};
 
-use crate::{decimal, hexadecimal};
+use crate::decimal;
+use crate::hexadecimal::Hexadecimal;
+use crate::verbs::{Verb, verb_of};
 use std::alloc::{AllocError, Global};
 
 // A reader of the words of one line. The words are parts of the line.
@@ -15,38 +17,15 @@ pub struct Words<'a> {
     rest: Option<&'a [u8]>,
 }
 
-// Whether a word is that text.
-pub fn is(word: &[u8], text: &[u8]) -> bool
-    ensures tells_whether_the_word_is_the_text { result ≡ bytes_eq word.now text.now }
-{
-    word == text
-}
-
-// How many bytes stand before the first blank.
-fn blank_at(text: &[u8]) -> usize
-    ensures place { result ≡ before_blank text.now }
-    ensures within { result ≤ length text.now }
-{
-    for (i, c) in text.iter().enumerate() {
-        if *c == b' ' {
-            return i;
-        }
-    }
-    text.len()
-}
-
 impl<'a> Words<'a> {
     // The words between `(` and `)`, where the line begins and ends so.
     pub fn of(line: &'a [u8]) -> Option<Words<'a>>
         ensures reads_the_words_between_the_brackets { option_map left result ≡ words_in line.now }
     {
-        let n = line.len();
-        if n < 2 || line[0] != b'(' || line[n - 1] != b')' {
-            return None;
+        match line {
+            [b'(', inside @ .., b')'] => Some(Words { rest: Some(inside) }),
+            _ => None,
         }
-        Some(Words {
-            rest: Some(&line[1..n - 1]),
-        })
     }
 
     // The next word.
@@ -55,14 +34,12 @@ impl<'a> Words<'a> {
         ensures leaves_the_words_behind_it { left self.new ≡ behind (left self.old) }
     {
         let text = self.rest?;
-        let n = text.len();
-        let end = blank_at(text);
-        if end == n {
+        let Some(end) = text.iter().position(|c| *c == b' ') else {
             self.rest = None;
             return Some(text);
-        }
-        self.rest = Some(&text[end + 1..n]);
-        Some(&text[0..end])
+        };
+        self.rest = Some(&text[end + 1..]);
+        Some(&text[..end])
     }
 
     // Whether no word is left.
@@ -72,28 +49,27 @@ impl<'a> Words<'a> {
         self.rest.is_none()
     }
 
-    // The next word as a number of two hexadecimal digits.
-    pub fn byte(&mut self) -> Option<u8>
-        ensures is_the_first_word_as_two_digits { result ≡ first_by byte_in (left self.old) }
-        ensures leaves_the_words_behind_it { left self.new ≡ behind (left self.old) }
+    // The value, where no word is left.
+    pub fn ended<T: Drop>(&self, value: T) -> Option<T>
+        ensures is_the_value_where_no_word_is_left { result ≡ ended value (left self.now) }
     {
-        hexadecimal::byte(self.word()?)
+        self.done().then_some(value)
     }
 
-    // The next word as a number of four hexadecimal digits.
-    pub fn short(&mut self) -> Option<u16>
-        ensures is_the_first_word_as_four_digits { result ≡ first_by short_in (left self.old) }
+    // The next word as a verb.
+    pub fn verb<V: Verb>(&mut self) -> Option<V>
+        ensures is_the_first_word_as_a_verb { result ≡ first_by (among V.spelled V.every) (left self.old) }
         ensures leaves_the_words_behind_it { left self.new ≡ behind (left self.old) }
     {
-        hexadecimal::short(self.word()?)
+        verb_of(self.word()?)
     }
 
-    // The next word as a number of eight hexadecimal digits.
-    pub fn long(&mut self) -> Option<u32>
-        ensures is_the_first_word_as_eight_digits { result ≡ first_by long_in (left self.old) }
+    // The next word as a hexadecimal number, of as many digits as its type has room for.
+    pub fn hexadecimal<H: Hexadecimal>(&mut self) -> Option<H>
+        ensures is_the_first_word_as_digits { result ≡ first_by H.number_in (left self.old) }
         ensures leaves_the_words_behind_it { left self.new ≡ behind (left self.old) }
     {
-        hexadecimal::long(self.word()?)
+        H::read(self.word()?)
     }
 
     // The next word as a decimal number that is at most so much.
@@ -102,11 +78,7 @@ impl<'a> Words<'a> {
         ensures is_at_most_so_much { IfSome result (λ n. n ≤ most) }
         ensures leaves_the_words_behind_it { left self.new ≡ behind (left self.old) }
     {
-        let number = decimal::number(self.word()?)?;
-        if number > most {
-            return None;
-        }
-        Some(number)
+        decimal::number(self.word()?).filter(|number| *number <= most)
     }
 
     // All the words that are left, each as a number of two hexadecimal digits.
@@ -115,7 +87,7 @@ impl<'a> Words<'a> {
     {
         let mut bytes = Vec::new(heap);
         while let Some(word) = self.word() {
-            let Some(byte) = hexadecimal::byte(word) else {
+            let Some(byte) = u8::read(word) else {
                 return Ok(None);
             };
             bytes.push(byte)?;

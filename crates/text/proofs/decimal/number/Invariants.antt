@@ -5,6 +5,6 @@ use Rattle.text.proofs.decimal.number.Given as goal
 
 abbrev pub invariant-loop-c : goal.invariant-loop-c
 invariant-loop-c l =
-    (l.value < 10 ^ l.c-index)
-    × (all_ascii_digits (drop l.c-index l.word) ≡ all_ascii_digits l.word)
+    (all_ascii_digits (drop l.c-index l.word) ≡ all_ascii_digits l.word)
     × (number_after l.value (drop l.c-index l.word) ≡ number_after 0 l.word)
+    × (l.value < 2 ^ 32)

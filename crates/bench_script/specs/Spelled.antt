@@ -2,18 +2,16 @@
 use Rattle.std.proofs.Common.{◌≡◌, ℕ, ◌≤◌, ◌&&◌, leb, List, [], ◌∷◌, length, Some, None, Option, refl, ap, ◌∙◌, subst, ap₂, arith}
 use Rattle.std.proofs.lemmas.Bool.{cond_both, cond-true, and_parts, and_from, leb-true, le-leb}
 use Rattle.std.specs.List.{AllByRecursion as All}
-use Rattle.text.proofs.Asking.{among_only, bytes_back, bytes_only, given_back, taken_only, ended_only, line_reads as spelled_reads}
+use Rattle.text.proofs.Asking.{among_only, bytes_back, bytes_only, given_back, taken_only, ended_only}
 use Rattle.text.proofs.Numbers.{up_to_back, up_to_only}
 use Rattle.text.proofs.Plain.{plain_decimal, plain_bytes, plain_from}
-use Rattle.text.proofs.Separated.{Plain}
 use Rattle.text.specs.Digits.{byte_in, number_up_to}
-use Rattle.text.specs.Grammar.{ended}
-use Rattle.text.specs.Lines.{all_by}
-use Rattle.text.specs.Texts.{Reads}
+use Rattle.text.specs.Grammar.{ended, Spelling}
+use Rattle.text.specs.Lines.{Plain, all_by}
 use Rattle.bench_script.specs.declared.form.Verb.{Verb}
 use Rattle.bench_script.specs.declared.form.Verb.TheVariants.{In, Work, Reset, Fault}
-use Rattle.bench_script.specs.Forms.{Asked, receive, work, reset, fault, verb_text, verb_for, words_for, shown, Fits}
-use Rattle.bench_script.specs.Grammar.{verbs, verb_in, received, worked, asked_by, asked_on}
+use Rattle.bench_script.specs.Forms.{Asked, receive, work, reset, fault, verb_text, verb_for, words_for, Fits}
+use Rattle.bench_script.specs.Grammar.{verbs, verb_in, received, worked, asked_by}
 
 -- ---- no word has a blank
 plain_verb : (v : Verb) → Plain (verb_text v)
@@ -80,14 +78,12 @@ asked_only Reset ws a e = let q = ended_only reset ws a e in subst (Spells Reset
 asked_only Fault ws a e = let q = ended_only fault ws a e in subst (Spells Fault ws) q.1 (refl, q.0, tt)
 
 -- ---- a whole line
-pub line_reads : (l : List ℕ) (o : Option Asked) → o ≡ asked_on l → Reads shown Fits l o
-line_reads =
-    spelled_reads verb_text verb_in asked_by verb_for words_for Fits
-    (record {
-      plain_verb = plain_verb;
-      plain_words = plain_words;
-      verb_back = verb_back;
-      verb_only = among_only verb_text verbs;
-      asked_back = asked_back;
-      asked_only = asked_only;
-    })
+pub spelling : Spelling verb_text verb_in asked_by verb_for words_for Fits
+spelling = record {
+  plain_verb = plain_verb;
+  plain_words = plain_words;
+  verb_back = verb_back;
+  verb_only = among_only verb_text verbs;
+  asked_back = asked_back;
+  asked_only = asked_only;
+}

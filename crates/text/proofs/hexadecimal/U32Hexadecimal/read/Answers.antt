@@ -1,0 +1,21 @@
+use Rattle.std.proofs.Common.{◌≡◌, ◌+◌, ◌*◌, Some, None, sym, ap, ◌∙◌}
+use Rattle.std.specs.ControlFlow.{continue_value}
+use Rattle.std.specs.Option.{option_map}
+use Rattle.text.specs.Digits.{long_in}
+use Rattle.text.proofs.Spelled.{long_halves, long_reads}
+use Rattle.text.proofs.hexadecimal.U32Hexadecimal.read.Goals as goal
+
+pub returns-in_err-high : goal.returns-in_err-high
+returns-in_err-high c =
+    let w = c.args.word.now in
+    let e = long_halves w c.halves.result c.halves.ensures.reads_both_halves in
+    let none : c.halves.result ≡ None = c.branch-high.ensures ∙ ap continue_value c.in_err-high.is in
+    let same : c.from_residual.result ≡ long_in w = c.from_residual.ensures ∙ ap (option_map (λ p. p.0 * 65536 + p.1)) (sym none) ∙ e in
+    record { reads_the_digits = same; is_the_number_whose_text_the_word_is = long_reads w _ same }
+
+pub returns : goal.returns
+returns c =
+    let w = c.args.word.now in
+    let e = long_halves w c.halves.result c.halves.ensures.reads_both_halves in
+    let same : Some (c.in_ok-high.high * 65536 + c.in_ok-high.low) ≡ long_in w = ap (option_map (λ p. p.0 * 65536 + p.1)) (sym c.in_ok-high.was) ∙ e in
+    record { reads_the_digits = same; is_the_number_whose_text_the_word_is = long_reads w _ same }
