@@ -3,7 +3,7 @@ ghost use Rattle.std.specs.Prelude.{◌≡◌};
 ghost use Rattle.commands.specs.Codes.{code_byte, code_of, local_number};
 
 // The code of an answer frame.
-#[derive(Clone, Copy)]
+#[derive(Clone, Copy, PartialEq, Eq, Debug)]
 pub enum Code {
     // served
     Done,
@@ -63,7 +63,7 @@ impl Code {
 }
 
 // A refusal on the caller's own side: it is no code and never stands in a frame.
-#[derive(Clone, Copy)]
+#[derive(Clone, Copy, PartialEq, Eq, Debug)]
 pub enum Local {
     // the buffer is too small
     SmallBuffer,
@@ -96,7 +96,7 @@ impl Local {
 }
 
 // Why something was turned down: on this side, or with the code that the part answers.
-#[derive(Clone, Copy)]
+#[derive(Clone, Copy, PartialEq, Eq, Debug)]
 pub enum Refusal {
     Local(Local),
     Code(Code),

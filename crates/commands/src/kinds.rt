@@ -3,7 +3,7 @@ ghost use Rattle.std.specs.Prelude.{◌≡◌};
 ghost use Rattle.commands.specs.Kinds.{kind_byte, kind_of, supported as supported_bytes, level_from, forbidden};
 
 // The commands of the part.
-#[derive(Clone, Copy)]
+#[derive(Clone, Copy, PartialEq, Eq, Debug)]
 pub enum Kind {
     Get,
     Read,
@@ -58,7 +58,7 @@ pub fn supported() -> [u8; 10]
 }
 
 // The protection level: 0 is open, 1 is locked.
-#[derive(Clone, Copy)]
+#[derive(Clone, Copy, PartialEq, Eq, Debug)]
 pub enum Level {
     Open,
     Locked,
