@@ -1,11 +1,9 @@
 // The calls of a loader.
 ghost use Rattle.std.specs.Prelude.{◌≡◌, ℕ, length};
-ghost use Rattle.frame.specs.Layout.{headed};
-ghost use Rattle.part.specs.Events.{byte_leaves, byte_says, work_leaves, work_says};
 ghost use Rattle.part.specs.Laws.{AnswersAsItsLockedTwins, OpensErased, ChecksWholeStretches};
 ghost use Rattle.part.specs.Levels.{level_of};
 ghost use Rattle.part.specs.Parts.{started, restarted};
-ghost use Rattle.loader.specs.Loaders.{part_of, received_as, worked_as, said_bytes};
+ghost use Rattle.loader.specs.Loaders.{part_of};
 
 use crate::loader::Loader;
 use crate::ticket::Ticket;
