@@ -2,6 +2,8 @@
 ghost use Rattle.std.specs.Prelude.{◌≡◌};
 ghost use Rattle.loader.specs.Answers.{answer_of, ticket_of};
 
+use crate::ticket::Ticket;
+
 // What a byte gets. A count says how many bytes stand at the buffer's head.
 #[derive(Clone, Copy, PartialEq, Eq, Debug)]
 pub enum Received {
@@ -15,7 +17,7 @@ pub enum Received {
 // What a work call answers. The answer to a served option write comes with a `Ticket`, or with nothing in its place where the
 // ticket is kept beside the loader.
 #[derive(Clone, Copy, PartialEq, Eq, Debug)]
-pub enum Worked<T> {
+pub enum Worked<T = Ticket> {
     // the buffer has fewer than 518 bytes: nothing was done
     SmallBuffer,
     Idle,

@@ -19,7 +19,7 @@ use receiver::{BoundedTask, Task};
 
 impl<F: Flash> Loader<F> {
     // Does the next portion of the command in hand.
-    fn go_on(&mut self, task: BoundedTask, buffer: &mut AnswerBuffer<'_>) -> Worked<Ticket>
+    fn go_on(&mut self, task: BoundedTask, buffer: &mut AnswerBuffer<'_>) -> Worked
         requires busy { self.old.receiver.state ≡ Busy task }
         requires no_ticket { ticket_for task.task ≡ false }
         ensures answers { result ≡ worked_as unspent (work_said (next_portion (part_of F.meaning self.old)).outcome) }
@@ -54,7 +54,7 @@ impl<F: Flash> Loader<F> {
     }
 
     // Does the next portion of the command in hand, if there is one.
-    pub fn work(&mut self, buffer: &mut [u8]) -> Worked<Ticket>
+    pub fn work(&mut self, buffer: &mut [u8]) -> Worked
         ensures answers_as_defined { result ≡ worked_as unspent (work_says (part_of F.meaning self.old) (length buffer.old)) }
         ensures leaves_the_part_as_defined { part_of F.meaning self.new ≡ work_leaves (part_of F.meaning self.old) (length buffer.old) }
         ensures puts_the_answer_and_no_more { buffer.new ≡ headed (said_bytes (work_says (part_of F.meaning self.old) (length buffer.old))) buffer.old }
@@ -64,13 +64,8 @@ impl<F: Flash> Loader<F> {
         }
         let mut answer = AnswerBuffer { bytes: buffer };
         match self.receiver.task() {
-            None
-            | Some(
-                BoundedTask {
-                    task: Task::AwaitingReset,
-                },
-            ) => Worked::Idle,
-            Some(task) => self.go_on(task, &mut answer),
+            Some(held) if held.task != Task::AwaitingReset => self.go_on(held, &mut answer),
+            _ => Worked::Idle,
         }
     }
 }
