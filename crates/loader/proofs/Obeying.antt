@@ -1,11 +1,13 @@
 -- A loader that holds a whole frame, and a loader that has done what it asks for.
-use Rattle.std.proofs.Common.{◌≡◌, ℕ, ◌≤◌, Bool, true, false, cond, ◌||◌, ltb, List, sym, refl, ap, ◌∙◌, arith}
+use Rattle.std.proofs.Common.{◌≡◌, ℕ, ◌≤◌, Bool, true, false, cond, ◌||◌, ltb, List, length, take, sym, refl, ap, ◌∙◌, arith}
 use Rattle.std.proofs.lemmas.Bool.Decides.{nat_tests}
 use Rattle.flash.specs.Meaning.{Meaning}
 use Rattle.frame.specs.Places.{judged}
 use Rattle.part.specs.Events.{after_byte, byte_said, byte_says, byte_leaves, least_buffer, small_buffer, silent, hears, busy, in_hand}
+use Rattle.part.specs.declared.identity.Identity.{Identity}
 use Rattle.part.specs.Receiving.{Heard, Reply, between, heard, answered, taking}
-use Rattle.part.specs.Parts.{none}
+use Rattle.part.specs.Parts.{Part, none}
+use Rattle.receiver.specs.declared.bounded_task.BoundedTask.{BoundedTask}
 use Rattle.receiver.specs.declared.receiver.Receiver.{Receiver}
 use Rattle.receiver.specs.declared.state.Order.{Order}
 use Rattle.receiver.specs.declared.state.State.{State}
@@ -16,18 +18,28 @@ use Rattle.receiver.specs.Receivers.{ordered_as, wire_of, busy_of}
 use Rattle.receiver.specs.States.{wire_in, hand_in, hand_for, ticket_in, ticket_for, busy_in}
 use Rattle.receiver.specs.Stores.{held}
 use Rattle.loader.specs.declared.loader.Loader.{Loader}
-use Rattle.loader.specs.Loaders.{part_of, order_of}
+use Rattle.loader.specs.declared.answer_buffer.AnswerBuffer.{AnswerBuffer}
+use Rattle.loader.specs.declared.answers.Received.{Received}
+use Rattle.loader.specs.AnswerBuffers.{Puts}
+use Rattle.loader.specs.Loaders.{part_of, order_of, received_as, said_bytes}
+
+-- what was heard of a frame has been done: the answer, the part as it is left, the buffer
+pub record Obeyed (p left : Part) (answer : Received) (old new : AnswerBuffer) (h : Heard) : Type 0 where
+  pub answers : answer ≡ received_as (byte_said h.reply)
+  pub leaves : left ≡ after_byte p h
+  pub puts : Puts (said_bytes (byte_said h.reply)) old new
 
 module _ {F : Type 0} (meaning : F → Meaning) where
   -- the order that a frame is, where the receiver holds the frame
-  pub ordered : (l : Loader F) (o : Order) (f : List ℕ) (pages : ℕ) → f ≡ held l.receiver.store → pages ≡ (meaning l.flash).pages
-      → answered l.identity l.level (meaning l.flash) (judged l.level pages f) ≡ ordered_as l.identity l.level (meaning l.flash) l.receiver.store.bytes o
-      → order_of meaning l ≡ ordered_as l.identity l.level (meaning l.flash) l.receiver.store.bytes o
+  pub ordered : (l : Loader F) (o : Order) (f : List ℕ) (pages : ℕ) → f ≡ held l.receiver.store → take (length f) l.receiver.store.bytes ≡ f
+      → pages ≡ (meaning l.flash).pages
+      → ((i : Identity) (m : Meaning) (s : List ℕ) → m.pages ≡ pages → take (length f) s ≡ f → answered i l.level m (judged l.level pages f) ≡ ordered_as i l.level m s o)
+      → ordered_as l.identity l.level (meaning l.flash) l.receiver.store.bytes o ≡ order_of meaning l
   unfolding order_of
-  ordered l o f pages e p h =
-      ap (λ (x : List ℕ). answered l.identity l.level (meaning l.flash) (judged l.level (meaning l.flash).pages x)) (sym e)
-      ∙ ap (λ (n : ℕ). answered l.identity l.level (meaning l.flash) (judged l.level n f)) (sym p)
-      ∙ h
+  ordered l o f pages e t p h =
+      sym (h l.identity (meaning l.flash) l.receiver.store.bytes (sym p) t)
+      ∙ ap (λ (n : ℕ). answered l.identity l.level (meaning l.flash) (judged l.level n f)) p
+      ∙ ap (λ (x : List ℕ). answered l.identity l.level (meaning l.flash) (judged l.level (meaning l.flash).pages x)) e
 
   -- a loader between frames that takes nothing up is as it was
   pub rests : (l : Loader F) (reply : Reply) → l.receiver.state ≡ Between
@@ -43,10 +55,10 @@ module _ {F : Type 0} (meaning : F → Meaning) where
   }
 
   -- a loader between frames that takes a command up is busy with it
-  pub takes_up : (l : Loader F) (r : Receiver) (task : Task) → l.receiver.state ≡ Between → r.state ≡ Busy task → r.store ≡ l.receiver.store
-      → ticket_for task ≡ false
+  pub takes_up : (l : Loader F) (r : Receiver) (task : BoundedTask) → l.receiver.state ≡ Between → r.state ≡ Busy task → r.store ≡ l.receiver.store
+      → ticket_for task.task ≡ false
       → part_of meaning (record { flash = l.flash; identity = l.identity; level = l.level; last = l.last; receiver = r })
-      ≡ after_byte (part_of meaning l) (taking (hand_for task l.receiver.store.bytes))
+      ≡ after_byte (part_of meaning l) (taking (hand_for task.task l.receiver.store.bytes))
   takes_up l r task e b s t =
       let ticket : ticket_in r.state ≡ ticket_in l.receiver.state = ap ticket_in b ∙ t ∙ sym (ap ticket_in e) in
       λ j. record {
@@ -61,6 +73,16 @@ module _ {F : Type 0} (meaning : F → Meaning) where
 
 -- ---- a loader that is not busy
 
+-- a task is a command in hand, or the ticket is out
+busy_with : (task : Task) (store : List ℕ) → (ticket_for task || in_hand (hand_for task store)) ≡ true
+busy_with (Writing first words done) store = refl
+busy_with (Setting first words) store = refl
+busy_with (Checking first count value done register) store = refl
+busy_with (Erasing first count done) store = refl
+busy_with Protecting store = refl
+busy_with (Unprotecting done) store = refl
+busy_with AwaitingReset store = refl
+
 -- a part is busy where its receiver is
 pub busy_same : (s : State) (store : List ℕ) → (ticket_in s || in_hand (hand_in s store)) ≡ busy_in s
 busy_same Unconnected store = refl
@@ -68,13 +90,7 @@ busy_same Between store = refl
 busy_same Header store = refl
 busy_same Data store = refl
 busy_same Crc store = refl
-busy_same (Busy (Writing first words done)) store = refl
-busy_same (Busy (Setting first words)) store = refl
-busy_same (Busy (Checking first count value done register)) store = refl
-busy_same (Busy (Erasing first count done)) store = refl
-busy_same (Busy Protecting) store = refl
-busy_same (Busy (Unprotecting done)) store = refl
-busy_same (Busy AwaitingReset) store = refl
+busy_same (Busy busy) store = busy_with busy.task store
 
 ticket_in_hand : (t h : Bool) → (t || h) ≡ false → t ≡ false
 ticket_in_hand true h e = let z : ◌≡◌ {A = ℕ} 0 1 = cc in absurd (omega arith)

@@ -11,10 +11,10 @@ use Rattle.part.specs.Events.{bytes, work_said, next_portion, after_portion, tic
 use Rattle.part.specs.Receiving.{code_answer}
 use Rattle.flash.specs.Effects.{written}
 use Rattle.commands.specs.declared.codes.Code.TheVariants.{FlashRefused}
+use Rattle.receiver.specs.declared.bounded_task.BoundedTask.{BoundedTask}
 use Rattle.receiver.specs.declared.receiver.Receiver.{Receiver}
 use Rattle.receiver.specs.declared.state.State.{State}
 use Rattle.receiver.specs.declared.state.State.TheVariants.{Between, Busy}
-use Rattle.receiver.specs.declared.task.Task.{Task}
 use Rattle.receiver.specs.States.{wire_in, hand_in, hand_for, ticket_in, ticket_for}
 use Rattle.receiver.specs.Stores.{held}
 use Rattle.loader.specs.declared.loader.Loader.{Loader}
@@ -48,17 +48,17 @@ refusal_of code (refused f) h fault e = record { cause = f; outcome = refl; repo
 
 -- a loader that reports the refusal and is between frames again
 module _ {F : Type 0} (meaning : F → Meaning) where
-  pub refuses : (l : Loader F) (task : Task) (store : List ℕ) (flash : F) (r : Receiver) (fault : CommandFault)
-      → l.receiver.state ≡ Busy task → store ≡ l.receiver.store.bytes → ticket_for task ≡ false → r.state ≡ Between
-      → Err fault ≡ coded (hand_byte (hand_for task store)) (left_by (portion (hand_for task store) (meaning l.flash)))
-      → meaning flash ≡ written (portion (hand_for task store) (meaning l.flash)).writes (meaning l.flash)
+  pub refuses : (l : Loader F) (task : BoundedTask) (store : List ℕ) (flash : F) (r : Receiver) (fault : CommandFault)
+      → l.receiver.state ≡ Busy task → store ≡ l.receiver.store.bytes → ticket_for task.task ≡ false → r.state ≡ Between
+      → Err fault ≡ coded (hand_byte (hand_for task.task store)) (left_by (portion (hand_for task.task store) (meaning l.flash)))
+      → meaning flash ≡ written (portion (hand_for task.task store) (meaning l.flash)).writes (meaning l.flash)
       → (bytes (code_answer FlashRefused) ≡ work_said (next_portion (part_of meaning l)).outcome)
       × (part_of meaning (record { flash = flash; identity = l.identity; level = l.level; last = Some fault; receiver = r })
       ≡ after_portion (part_of meaning l) (next_portion (part_of meaning l)))
   refuses l task store flash r fault busy same free between e w =
       let p = part_of meaning l in
       let m = meaning l.flash in
-      let h : hand_for task store ≡ p.hand = ap (hand_for task) same ∙ sym (ap (λ (x : State). hand_in x l.receiver.store.bytes) busy) in
+      let h : hand_for task.task store ≡ p.hand = ap (hand_for task.task) same ∙ sym (ap (λ (x : State). hand_in x l.receiver.store.bytes) busy) in
       let x = refusal_of (hand_byte p.hand) (portion p.hand m).outcome (portion p.hand m).hand fault
       (e ∙ ap (λ (y : Hand). coded (hand_byte y) (left_by (portion y m))) h) in
       let ends = refused_ends p.hand m x.cause x.outcome in

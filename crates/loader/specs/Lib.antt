@@ -1,3 +1,5 @@
+pub mod AnswerBuffers
+pub mod Answers
 pub mod Faults
 pub mod Loaders
 pub mod Progresses

@@ -1,10 +1,10 @@
 -- How a portion of the code ended, in the words of the part.
-use Rattle.std.specs.Prelude.{ℕ, Bool, true, List, Ok, Err, Result}
+use Rattle.std.specs.Prelude.{ℕ, List, Ok, Err, Result}
 use Rattle.memory.specs.declared.fault.MemoryFault.{MemoryFault}
 use Rattle.memory.specs.Reports.{in_memory}
 use Rattle.part.specs.Parts.{Hand, none}
 use Rattle.part.specs.Working.{Outcome, idle, going, done, done_ticket, differs, refused, Portion}
-use Rattle.receiver.specs.States.{hand_for, bounded}
+use Rattle.receiver.specs.States.{hand_for}
 use Rattle.loader.specs.declared.progress.Progress.{Progress}
 use Rattle.part.specs.declared.report.CommandFault.{CommandFault}
 use Rattle.loader.specs.Faults.{in_command}
@@ -12,7 +12,7 @@ use Rattle.loader.specs.declared.progress.Progress.TheVariants.{Going, Done, Don
 
 -- the command in hand then, the data of a Write being in the store; and how the portion ended
 abbrev pub hand_after : List ℕ → Progress → Hand
-hand_after store (Going task) = hand_for task store
+hand_after store (Going task) = hand_for task.task store
 hand_after store Done = none
 hand_after store DoneWithTicket = none
 hand_after store Differs = none
@@ -44,14 +44,3 @@ left_by p = left_as p.outcome p.hand
 abbrev pub coded : ℕ → Result (Hand × Outcome) MemoryFault → Result (Hand × Outcome) CommandFault
 coded code (Ok x) = Ok x
 coded code (Err fault) = Err (in_command code fault)
-
--- a task that goes on has numbers that can be added up
-abbrev pub stays_bounded : Progress → Bool
-stays_bounded (Going task) = bounded task
-stays_bounded Done = true
-stays_bounded DoneWithTicket = true
-stays_bounded Differs = true
-
-abbrev pub goes_bounded : {E : Type 0} → Result Progress E → Bool
-goes_bounded (Ok progress) = stays_bounded progress
-goes_bounded (Err fault) = true

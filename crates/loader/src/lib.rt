@@ -1,8 +1,8 @@
 // The loader over any flash.
 #![tactic(auto)]
 
+mod answer_buffer;
 mod answers;
-mod faults;
 mod loader;
 mod portions;
 mod progress;

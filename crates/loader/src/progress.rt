@@ -1,11 +1,11 @@
 // How a portion ended.
-use receiver::Task;
+use receiver::BoundedTask;
 
 // How a portion ended that the flash did not refuse.
-#[derive(Clone, Copy)]
+#[derive(Clone, Copy, PartialEq, Eq, Debug)]
 pub enum Progress {
     // there is more to do
-    Going(Task),
+    Going(BoundedTask),
     // that was the last portion
     Done,
     // that was the last portion, and the option words were written

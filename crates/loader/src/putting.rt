@@ -2,52 +2,82 @@
 ghost use Rattle.std.specs.Prelude.{◌≡◌, ◌≤◌, [], ◌∷◌, length};
 ghost use Rattle.areas.specs.Words.{bytes_of_words};
 ghost use Rattle.commands.specs.Codes.{code_byte};
-ghost use Rattle.commands.specs.Fields.{bytes_of_two};
-ghost use Rattle.frame.specs.Layout.{answer_head, framed, headed};
+ghost use Rattle.frame.specs.Layout.{answer_head, framed};
 ghost use Rattle.memory.specs.Portions.{words_at};
 ghost use Rattle.part.specs.Levels.{level_byte as told_level};
 ghost use Rattle.part.specs.Receiving.{data_answer, information, version_told, device_told};
+ghost use Rattle.loader.specs.AnswerBuffers.{Puts};
 
+use crate::answer_buffer::AnswerBuffer;
 use areas::Area;
 use commands::{Code, Level, supported};
 use flash::Flash;
 use frame::put_frame;
 use part::Identity;
 
-// The answer to the connection byte.
-pub(crate) fn put_greeting(buffer: &mut [u8]) -> usize
-    requires { 518 ≤ length buffer.old }
-    ensures count { result ≡ 1 }
-    ensures head { buffer.new ≡ headed (answer_head ∷ []) buffer.old }
-{
-    buffer[0..1].copy_from_slice(&[0xB3]);
-    1
-}
-
-// An answer frame with a code and data that fit the buffer.
-pub(crate) fn put_answer(buffer: &mut [u8], code: Code, bytes: &[u8]) -> usize
-    requires { (518 ≤ length buffer.old) × (length bytes.now ≤ 512) }
-    ensures count { result ≡ length (framed answer_head (code_byte code) bytes.now) }
-    ensures head { buffer.new ≡ headed (framed answer_head (code_byte code) bytes.now) buffer.old }
-{
-    match put_frame(buffer, 0xB3, code.byte(), bytes, &[]) {
-        Some(count) => count,
-        None => 0,
+// Each call puts one answer at the head, and tells how many bytes the answer has.
+impl AnswerBuffer<'_> {
+    // The answer to the connection byte.
+    pub(crate) fn put_greeting(&mut self) -> usize
+        ensures count { result ≡ 1 }
+        ensures puts { Puts (answer_head ∷ []) self.old self.new }
+    {
+        self.bytes[0..1].copy_from_slice(&[0xB3]);
+        1
     }
-}
 
-// A number as two bytes, the high byte first.
-fn two_bytes(number: u16) -> [u8; 2]
-    ensures { result ≡ bytes_of_two number }
-{
-    [(number / 256) as u8, (number % 256) as u8]
+    // An answer frame with a code and data.
+    pub(crate) fn put_answer(&mut self, code: Code, content: &[u8]) -> usize
+        requires { length content.now ≤ 512 }
+        ensures count { result ≡ length (framed answer_head (code_byte code) content.now) }
+        ensures puts { Puts (framed answer_head (code_byte code) content.now) self.old self.new }
+    {
+        put_frame(self.bytes, 0xB3, code.byte(), content, &[]).unwrap_or(0)
+    }
+
+    // What Get tells.
+    pub(crate) fn put_information(
+        &mut self,
+        identity: &Identity,
+        level: Level,
+        pages: u32,
+        number: u8,
+    ) -> usize
+        ensures count { result ≡ length (data_answer (information identity.now level pages number)) }
+        ensures puts { Puts (data_answer (information identity.now level pages number)) self.old self.new }
+    {
+        match number {
+            0 => self.put_answer(Code::Done, &supported()),
+            1 => self.put_answer(Code::Done, &identity.uid),
+            2 => self.put_answer(Code::Done, &[level_byte(level)]),
+            3 => self.put_answer(Code::Done, &version_bytes(identity)),
+            _ => self.put_answer(Code::Done, &device_bytes(identity, pages)),
+        }
+    }
+
+    // The words of an area, at most 128.
+    pub(crate) fn put_words<F: Flash>(
+        &mut self,
+        flash: &F,
+        area: Area,
+        first: u32,
+        count: u32,
+    ) -> usize
+        requires { count ≤ 128 }
+        ensures count { result ≡ length (data_answer (bytes_of_words (words_at (F.meaning flash.now) area first count))) }
+        ensures puts { Puts (data_answer (bytes_of_words (words_at (F.meaning flash.now) area first count))) self.old self.new }
+    {
+        let mut bytes = [0u8; 512];
+        let size = memory::copy_words(flash, area, first, count, &mut bytes);
+        self.put_answer(Code::Done, &bytes[0..size])
+    }
 }
 
 // The version and two bytes of zero.
 fn version_bytes(identity: &Identity) -> [u8; 4]
     ensures { result ≡ version_told identity.now }
 {
-    let [high, low] = two_bytes(identity.version);
+    let [high, low] = identity.version.to_be_bytes();
     [high, low, 0, 0]
 }
 
@@ -55,8 +85,8 @@ fn version_bytes(identity: &Identity) -> [u8; 4]
 fn device_bytes(identity: &Identity, pages: u32) -> [u8; 6]
     ensures { result ≡ device_told identity.now pages }
 {
-    let [flash_high, flash_low] = two_bytes((pages / 2 % 65536) as u16);
-    let [sram_high, sram_low] = two_bytes(identity.sram);
+    let [flash_high, flash_low] = ((pages / 2 % 65536) as u16).to_be_bytes();
+    let [sram_high, sram_low] = identity.sram.to_be_bytes();
     [
         identity.device,
         identity.package,
@@ -65,44 +95,6 @@ fn device_bytes(identity: &Identity, pages: u32) -> [u8; 6]
         sram_high,
         sram_low,
     ]
-}
-
-// What Get tells.
-pub(crate) fn put_information(
-    buffer: &mut [u8],
-    identity: &Identity,
-    level: Level,
-    pages: u32,
-    number: u8,
-) -> usize
-    requires { 518 ≤ length buffer.old }
-    ensures count { result ≡ length (data_answer (information identity.now level pages number)) }
-    ensures head { buffer.new ≡ headed (data_answer (information identity.now level pages number)) buffer.old }
-{
-    match number {
-        0 => put_answer(buffer, Code::Done, &supported()),
-        1 => put_answer(buffer, Code::Done, &identity.uid),
-        2 => put_answer(buffer, Code::Done, &[level_byte(level)]),
-        3 => put_answer(buffer, Code::Done, &version_bytes(identity)),
-        _ => put_answer(buffer, Code::Done, &device_bytes(identity, pages)),
-    }
-}
-
-// The words of an area, at most 128.
-pub(crate) fn put_words<F: Flash>(
-    flash: &F,
-    buffer: &mut [u8],
-    area: Area,
-    first: u32,
-    count: u32,
-) -> usize
-    requires { (518 ≤ length buffer.old) × (count ≤ 128) }
-    ensures count { result ≡ length (data_answer (bytes_of_words (words_at (F.meaning flash.now) area first count))) }
-    ensures head { buffer.new ≡ headed (data_answer (bytes_of_words (words_at (F.meaning flash.now) area first count))) buffer.old }
-{
-    let mut bytes = [0u8; 512];
-    let size = memory::copy_words(flash, area, first, count, &mut bytes);
-    put_answer(buffer, Code::Done, &bytes[0..size])
 }
 
 // The level as the byte that Get tells.

@@ -1,5 +1,5 @@
 // What a part is known by, besides its flash.
-#[derive(Clone, Copy)]
+#[derive(Clone, Copy, PartialEq, Eq, Debug)]
 pub struct Identity {
     pub uid: [u8; 12],
     pub version: u16,

@@ -1,5 +1,5 @@
 -- What a receiver means, what comes of a byte, and what comes of a whole frame, in the words of the part.
-use Rattle.std.specs.Prelude.{ℕ, Bool, List, [], ◌∷◌}
+use Rattle.std.specs.Prelude.{◌≡◌, ℕ, Bool, false, List, [], ◌∷◌}
 use Rattle.areas.specs.Words.{bytes_of_words}
 use Rattle.flash.specs.Meaning.{Meaning}
 use Rattle.commands.specs.declared.codes.Code.TheVariants.{WrongLength}
@@ -10,12 +10,13 @@ use Rattle.frame.specs.Places.{judged}
 use Rattle.memory.specs.Portions.{words_at}
 use Rattle.part.specs.declared.identity.Identity.{Identity}
 use Rattle.part.specs.Parts.{Wire, Hand, none}
-use Rattle.part.specs.Receiving.{Heard, quiet, replied, waiting, answering, taking, answered, code_answer, data_answer, information}
+use Rattle.part.specs.Receiving.{Heard, heard, quiet, replied, waiting, answering, taking, answered, code_answer, data_answer, information}
 use Rattle.receiver.specs.declared.receiver.Receiver.{Receiver}
 use Rattle.receiver.specs.declared.state.Order.{Order}
 use Rattle.receiver.specs.declared.state.Order.TheVariants.{Ignore, Refuse, Tell, Show, Take}
 use Rattle.receiver.specs.declared.state.Reception.{Reception}
 use Rattle.receiver.specs.declared.state.Reception.TheVariants.{Quiet, Greet, TooLong, Whole}
+use Rattle.receiver.specs.declared.state.State.TheVariants.{Between}
 use Rattle.receiver.specs.States.{wire_in, hand_in, hand_for, ticket_in, busy_in}
 use Rattle.receiver.specs.Stores.{held}
 
@@ -38,6 +39,12 @@ heard_as i level m r Quiet = record { wire = wire_of r; takes = none; reply = qu
 heard_as i level m r Greet = record { wire = wire_of r; takes = none; reply = replied (answer_head ∷ []) }
 heard_as i level m r TooLong = record { wire = wire_of r; takes = none; reply = replied (code_answer WrongLength) }
 heard_as i level m r Whole = answered i level m (judged level m.pages (held r.store))
+
+-- a byte within a frame: it is heard as the definitions hear it, takes nothing up, and behind a whole frame the receiver is between frames
+pub record HearsWithin (old : Receiver) (byte : ℕ) (new : Receiver) (reception : Reception) : Type 0 where
+  pub hears : (i : Identity) (level : Level) (m : Meaning) → heard i level m (wire_of old) byte ≡ heard_as i level m new reception
+  pub free : busy_of new ≡ false
+  pub after : reception ≡ Whole → new.state ≡ Between
 
 -- what is heard of a whole frame, by the order that it is
 abbrev pub ordered_as : Identity → Level → Meaning → List ℕ → Order → Heard

@@ -1,29 +1,20 @@
 -- Where a receiver stands: what that says of the open frame, of the wire, and of the command in hand.
-use Rattle.std.specs.Prelude.{◌≡◌, ℕ, ◌+◌, ◌^◌, ◌≤◌, Bool, true, false, ◌&&◌, List, [], length, Some, None, Option, nat_le, nat_lt}
+use Rattle.std.specs.Prelude.{◌≡◌, ℕ, ◌+◌, ◌≤◌, Bool, true, false, ◌&&◌, List, [], length, Some, None, Option, nat_le, nat_lt}
 use Rattle.frame.specs.Layout.{length_field, command_most}
 use Rattle.commands.specs.Requests.{stored_bytes}
 use Rattle.part.specs.Parts.{Wire, Hand, none, unprotecting, doing, writing, setting, checking, erasing, protecting}
+use Rattle.receiver.specs.declared.bounded_task.BoundedTask.{BoundedTask}
 use Rattle.receiver.specs.declared.state.Order.{Order}
 use Rattle.receiver.specs.declared.state.Order.TheVariants.{Ignore, Refuse, Tell, Show, Take}
 use Rattle.receiver.specs.declared.state.State.{State}
 use Rattle.receiver.specs.declared.state.State.TheVariants.{Unconnected, Between, Header, Data, Crc, Busy}
 use Rattle.receiver.specs.declared.task.Task.{Task}
 use Rattle.receiver.specs.declared.task.Task.TheVariants.{Writing, Setting, Checking, Erasing, Protecting, Unprotecting, AwaitingReset}
+pub use Rattle.receiver.specs.Tasks.{bounded}
 
 -- the header's length field names data that a frame may have, and some
 abbrev pub has_data : List ℕ → Bool
 has_data f = nat_lt 0 (length_field f) && nat_le (length_field f) command_most
-
--- the numbers of a task, added up, pass no limit of 32 bits, no more is done of it than there is, a Write has 1 to 128 words, and
--- one of option words keeps to the four
-abbrev pub bounded : Task → Bool
-bounded (Writing first words done) = nat_lt (first + 256) (2 ^ 32) && (nat_le 1 words && nat_le words 128)
-bounded (Setting first words) = nat_le 1 words && nat_le (first + words) 4
-bounded (Checking first count value done register) = nat_le done count && nat_lt (first + count) (2 ^ 32)
-bounded (Erasing first count done) = nat_lt (first + count) (2 ^ 32)
-bounded Protecting = true
-bounded (Unprotecting done) = true
-bounded AwaitingReset = true
 
 -- the open frame has come as far as the state says
 abbrev pub comes_to : State → List ℕ → Bool
@@ -32,7 +23,7 @@ comes_to Between f = true
 comes_to Header f = nat_lt 0 (length f) && nat_lt (length f) 4
 comes_to Data f = has_data f && (nat_le 4 (length f) && nat_lt (length f) (4 + length_field f))
 comes_to Crc f = has_data f && (nat_le (4 + length_field f) (length f) && nat_lt (length f) (6 + length_field f))
-comes_to (Busy task) f = bounded task
+comes_to (Busy busy) f = true
 
 -- connected or not, and the bytes of the open frame
 abbrev pub wire_in : State → List ℕ → Wire
@@ -41,7 +32,7 @@ wire_in Between f = record { connected = true; frame = [] }
 wire_in Header f = record { connected = true; frame = f }
 wire_in Data f = record { connected = true; frame = f }
 wire_in Crc f = record { connected = true; frame = f }
-wire_in (Busy task) f = record { connected = true; frame = [] }
+wire_in (Busy busy) f = record { connected = true; frame = [] }
 
 -- the command in hand that a task is; the data of a Write stand in the store
 abbrev pub hand_for : Task → List ℕ → Hand
@@ -59,7 +50,7 @@ hand_in Between store = none
 hand_in Header store = none
 hand_in Data store = none
 hand_in Crc store = none
-hand_in (Busy task) store = hand_for task store
+hand_in (Busy busy) store = hand_for busy.task store
 
 -- the ticket is out
 abbrev pub ticket_for : Task → Bool
@@ -77,7 +68,7 @@ ticket_in Between = false
 ticket_in Header = false
 ticket_in Data = false
 ticket_in Crc = false
-ticket_in (Busy task) = ticket_for task
+ticket_in (Busy busy) = ticket_for busy.task
 
 -- a command is in hand or the ticket is out
 abbrev pub busy_in : State → Bool
@@ -86,16 +77,16 @@ busy_in Between = false
 busy_in Header = false
 busy_in Data = false
 busy_in Crc = false
-busy_in (Busy task) = true
+busy_in (Busy busy) = true
 
 -- what a receiver is busy with
-abbrev pub task_in : State → Option Task
+abbrev pub task_in : State → Option BoundedTask
 task_in Unconnected = None
 task_in Between = None
 task_in Header = None
 task_in Data = None
 task_in Crc = None
-task_in (Busy task) = Some task
+task_in (Busy busy) = Some busy
 
 -- an order shows no more than an answer holds, and its task is a command whose numbers can be added up
 abbrev pub Modest : Order → Type 0

@@ -1,4 +1,5 @@
 // Where a receiver stands, and what comes of a byte and of a frame.
+use crate::bounded_task::BoundedTask;
 use crate::task::Task;
 use areas::Area;
 use commands::{Code, Information};
@@ -16,7 +17,7 @@ pub enum State {
     // in a frame: its checksum
     Crc,
     // a command is in hand, or the ticket is out
-    Busy(Task),
+    Busy(BoundedTask),
 }
 
 // What a byte leads to.

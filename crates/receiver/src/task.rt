@@ -2,7 +2,7 @@
 mod bounds;
 
 // The command in hand, with what has been done of it. The data of a Write stand in the frame's store.
-#[derive(Clone, Copy, PartialEq, Eq)]
+#[derive(Clone, Copy, PartialEq, Eq, Debug)]
 pub enum Task {
     // user words from a number on, how many, words done
     Writing {

@@ -6,10 +6,9 @@ use Rattle.part.specs.Events.{small_buffer, silent, bytes, byte_said, byte_says,
 use Rattle.part.specs.Parts.{Part}
 use Rattle.part.specs.Receiving.{Reply, quiet, taken_up, replied}
 use Rattle.part.specs.Working.{Outcome, idle, going, done, done_ticket, differs, refused}
-use Rattle.loader.specs.declared.answers.Answer.{Answer}
 use Rattle.loader.specs.declared.answers.Received.{Received}
-use Rattle.loader.specs.Loaders.{received_as, said_bytes}
-use Rattle.loader.specs.Runs.{answered_as}
+use Rattle.loader.specs.declared.answers.Worked.{Worked}
+use Rattle.loader.specs.Loaders.{received_as, said_bytes, worked_as}
 use Rattle.runs.specs.Lists.{byte_answer, work_answer}
 
 byte_tells : (c d : Bool) (r : Reply) (old : List ℕ)
@@ -25,16 +24,17 @@ pub byte_told : (p : Part) (b room : ℕ) (r : Received) (buffer old : List ℕ)
     → byte_answer r buffer ≡ byte_says p b room
 byte_told p b room r buffer old e f = ap₂ byte_answer e f ∙ byte_tells (ltb room least_buffer) (busy p) (hears p b).reply old
 
-work_tells : (c : Bool) (o : Outcome) (old : List ℕ)
-    → work_answer (answered_as (cond c small_buffer (work_said o))) (headed (said_bytes (cond c small_buffer (work_said o))) old) ≡ cond c small_buffer (work_said o)
-work_tells true o old = refl
-work_tells false idle old = refl
-work_tells false going old = refl
-work_tells false done old = refl
-work_tells false done_ticket old = refl
-work_tells false differs old = refl
-work_tells false (refused f) old = refl
+module _ {T : Type 0} (ticket : T) where
+  work_tells : (c : Bool) (o : Outcome) (old : List ℕ)
+      → work_answer (worked_as ticket (cond c small_buffer (work_said o))) (headed (said_bytes (cond c small_buffer (work_said o))) old) ≡ cond c small_buffer (work_said o)
+  work_tells true o old = refl
+  work_tells false idle old = refl
+  work_tells false going old = refl
+  work_tells false done old = refl
+  work_tells false done_ticket old = refl
+  work_tells false differs old = refl
+  work_tells false (refused f) old = refl
 
-pub work_told : (p : Part) (room : ℕ) (r : Answer) (buffer old : List ℕ) → r ≡ answered_as (work_says p room) → buffer ≡ headed (said_bytes (work_says p room)) old
-    → work_answer r buffer ≡ work_says p room
-work_told p room r buffer old e f = ap₂ work_answer e f ∙ work_tells (ltb room least_buffer) (next_portion p).outcome old
+  pub work_told : (p : Part) (room : ℕ) (r : Worked T) (buffer old : List ℕ) → r ≡ worked_as ticket (work_says p room) → buffer ≡ headed (said_bytes (work_says p room)) old
+      → work_answer r buffer ≡ work_says p room
+  work_told p room r buffer old e f = ap₂ work_answer e f ∙ work_tells (ltb room least_buffer) (next_portion p).outcome old

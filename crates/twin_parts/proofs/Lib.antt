@@ -1,1 +1,5 @@
+mod Alike
+mod Bounded
 mod Hands
+mod Same
+mod Wear

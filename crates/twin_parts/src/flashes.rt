@@ -1,8 +1,7 @@
 // Comparing two flashes of any kinds.
-ghost use Rattle.std.specs.Prelude.{◌≡◌, Decides, slice_index};
+ghost use Rattle.std.specs.Prelude.{◌≡◌, ◌↔◌, Decides, IsTrue, slice_index};
 ghost use Rattle.flash.specs.Meaning.{without_words};
 
-use crate::comparing::same_words;
 use flash::Flash;
 use memory::option_words;
 
@@ -10,10 +9,7 @@ use memory::option_words;
 fn erases_left<F: Flash>(flash: &F, page: u32) -> u32
     ensures { result ≡ slice_index (F.meaning flash.now).erases_left page }
 {
-    match flash.erases_left(page) {
-        Ok(left) => left,
-        Err(_) => 0,
-    }
+    flash.erases_left(page).unwrap_or(0)
 }
 
 // Whether the erases left of all pages are equal, where there are as many pages.
@@ -21,12 +17,7 @@ fn same_wear<F: Flash, G: Flash>(a: &F, b: &G, pages: u32) -> bool
     requires { (pages ≡ (F.meaning a.now).pages) × (pages ≡ (G.meaning b.now).pages) }
     ensures { Decides result ((F.meaning a.now).erases_left ≡ (G.meaning b.now).erases_left) }
 {
-    for page in 0..pages {
-        if erases_left(a, page) != erases_left(b, page) {
-            return false;
-        }
-    }
-    true
+    (0..pages).all(|page| erases_left(a, page) == erases_left(b, page))
 }
 
 // Whether two flashes agree in all but their user words.
@@ -34,7 +25,7 @@ pub fn same_but_words<F: Flash, G: Flash>(a: &F, b: &G) -> bool
     ensures tells_whether_they_agree_in_all_but_user_words { Decides result (without_words (F.meaning a.now) ≡ without_words (G.meaning b.now)) }
 {
     a.pages() == b.pages()
-        && same_words(&option_words(a), &option_words(b))
+        && option_words(a) == option_words(b)
         && a.option_writes_left() == b.option_writes_left()
         && same_wear(a, b, a.pages())
 }

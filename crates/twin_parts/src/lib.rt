@@ -1,7 +1,6 @@
 // Two parts, over any two kinds of flash, side by side.
 #![tactic(auto)]
 
-mod comparing;
 mod flashes;
 mod receivers;
 mod twins;

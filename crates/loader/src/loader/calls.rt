@@ -1,11 +1,9 @@
 // The calls of a loader.
-ghost use Rattle.std.specs.Prelude.{◌≡◌, ℕ, length};
-ghost use Rattle.frame.specs.Layout.{headed};
-ghost use Rattle.part.specs.Events.{byte_leaves, byte_says, work_leaves, work_says};
+ghost use Rattle.std.specs.Prelude.{◌≡◌, slice_index};
 ghost use Rattle.part.specs.Laws.{AnswersAsItsLockedTwins, OpensErased, ChecksWholeStretches};
 ghost use Rattle.part.specs.Levels.{level_of};
 ghost use Rattle.part.specs.Parts.{started, restarted};
-ghost use Rattle.loader.specs.Loaders.{part_of, received_as, worked_as, said_bytes};
+ghost use Rattle.loader.specs.Loaders.{part_of};
 
 use crate::loader::Loader;
 use crate::ticket::Ticket;
@@ -25,6 +23,14 @@ fn level_in(word: u32) -> Level
     }
 }
 
+// The level that a flash's option word 0 says.
+fn loaded_level<F: Flash>(flash: &F) -> Level
+    ensures { result ≡ level_of (slice_index (F.meaning flash.now).options 0) }
+{
+    let [word, _, _, _] = memory::option_words(flash);
+    level_in(word)
+}
+
 // Starts a loader on a flash: unconnected, no command in hand, no fault, the level loaded from option word 0.
 pub fn start<F: Flash>(flash: F, identity: Identity) -> Loader<F>
     ensures is_a_part_as_it_starts { part_of F.meaning result ≡ started identity (F.meaning flash) }
@@ -32,11 +38,11 @@ pub fn start<F: Flash>(flash: F, identity: Identity) -> Loader<F>
     ensures opens_only_once_every_page_is_erased { OpensErased (part_of F.meaning result) }
     ensures memory_crc_answers_for_the_whole_stretch { ChecksWholeStretches (part_of F.meaning result) }
 {
-    let [word, _, _, _] = memory::option_words(&flash);
+    let level = loaded_level(&flash);
     Loader {
         flash,
         identity,
-        level: level_in(word),
+        level,
         last: None,
         receiver: Receiver::new(),
     }
@@ -73,8 +79,7 @@ impl<F: Flash> Loader<F> {
     pub(crate) fn restart(&mut self)
         ensures { part_of F.meaning self.new ≡ restarted (part_of F.meaning self.old) }
     {
-        let [word, _, _, _] = memory::option_words(&self.flash);
-        self.level = level_in(word);
+        self.level = loaded_level(&self.flash);
         self.last = None;
         self.receiver = Receiver::new();
     }

@@ -3,10 +3,10 @@ ghost use Rattle.std.specs.Prelude.{◌≡◌, length};
 ghost use Rattle.frame.specs.Layout.{headed};
 ghost use Rattle.part.specs.Events.{byte_leaves, byte_says, work_leaves, work_says, reset_leaves};
 ghost use Rattle.part.specs.Parts.{started};
-ghost use Rattle.loader.specs.Loaders.{received_as, said_bytes};
-ghost use Rattle.loader.specs.Runs.{part_running, answered_as};
+ghost use Rattle.loader.specs.Loaders.{received_as, said_bytes, worked_as};
+ghost use Rattle.loader.specs.Runs.{part_running};
 
-use crate::answers::{Answer, Received, Worked};
+use crate::answers::{Answer, Received};
 use crate::loader::Loader;
 use crate::loader::calls::{off, start};
 use crate::running::Running;
@@ -35,22 +35,17 @@ impl<F: Flash> Running<F> {
 
     // One work call. A ticket that comes is kept.
     pub fn work(&mut self, buffer: &mut [u8]) -> Answer
-        ensures answers_as_defined { result ≡ answered_as (work_says (part_running F.meaning self.old) (length buffer.old)) }
+        ensures answers_as_defined { result ≡ worked_as tt (work_says (part_running F.meaning self.old) (length buffer.old)) }
         ensures leaves_the_part_as_defined { part_running F.meaning self.new ≡ work_leaves (part_running F.meaning self.old) (length buffer.old) }
         ensures puts_the_answer_and_no_more { buffer.new ≡ headed (said_bytes (work_says (part_running F.meaning self.old) (length buffer.old))) buffer.old }
     {
-        match self.loader.work(buffer) {
-            Worked::SmallBuffer => Answer::SmallBuffer,
-            Worked::Idle => Answer::Idle,
-            Worked::Going => Answer::Going,
-            Worked::Bytes(count) => Answer::Bytes(count),
-            Worked::BytesAndTicket(count, ticket) => {
-                if let Some(old) = self.ticket.replace(ticket) {
-                    old.spend();
-                }
-                Answer::BytesAndTicket(count)
+        let (answer, ticket) = self.loader.work(buffer).split();
+        if let Some(ticket) = ticket {
+            if let Some(old) = self.ticket.replace(ticket) {
+                old.spend();
             }
         }
+        answer
     }
 
     // The last fault report.

@@ -1,13 +1,15 @@
 // What a receiver does.
-ghost use Rattle.std.specs.Prelude.{◌≡◌, true, false, length, take, IfSome, if◌then◌else◌};
+ghost use Rattle.std.specs.Prelude.{◌≡◌, ◌↔◌, true, false, length, take, IsOk, OnOk, OnErr, IsSomeAnd};
 ghost use Rattle.flash.specs.Meaning.{Meaning};
 ghost use Rattle.commands.specs.declared.kinds.Level.{Level};
 ghost use Rattle.part.specs.declared.identity.Identity.{Identity};
 ghost use Rattle.part.specs.Receiving.{heard};
-ghost use Rattle.receiver.specs.Receivers.{wire_of, busy_of, heard_as};
-ghost use Rattle.receiver.specs.States.{bounded, task_in};
+ghost use Rattle.receiver.specs.Receivers.{wire_of, busy_of, heard_as, HearsWithin};
+ghost use Rattle.receiver.specs.States.{task_in};
+ghost use Rattle.receiver.specs.Tasks.{bounded};
 ghost use Rattle.receiver.specs.Stores.{held};
 
+use crate::bounded_task::{BoundedTask, UnboundedTask};
 use crate::receiver::Receiver;
 use crate::state::{Reception, State};
 use crate::store::FrameStore;
@@ -36,27 +38,23 @@ impl Receiver {
                 self.state = State::Between;
                 Reception::Greet
             }
-            (State::Unconnected, _) => Reception::Quiet,
             (State::Between, 0x5A) => Reception::Greet,
             (State::Between, 0x85) => {
                 self.store.begin(0x85);
                 self.state = State::Header;
                 Reception::Quiet
             }
-            (State::Between, _) => Reception::Quiet,
             (State::Header, _) => self.take_header(byte),
             (State::Data, _) => self.take_data(byte),
             (State::Crc, _) => self.take_crc(byte),
-            (State::Busy(_), _) => Reception::Quiet,
+            (State::Unconnected | State::Between | State::Busy(_), _) => Reception::Quiet,
         }
     }
 
     // A byte of the head, the command or the length. The length is judged with its last byte; a frame without data is whole then.
     fn take_header(&mut self, byte: u8) -> Reception
         requires { self.old.state ≡ State.Header }
-        ensures hears { (i : Identity) (level : Level) (m : Meaning) → heard i level m (wire_of self.old) byte ≡ heard_as i level m self.new result }
-        ensures free { busy_of self.new ≡ false }
-        ensures after { result ≡ Reception.Whole → self.new.state ≡ State.Between }
+        ensures { HearsWithin self.old byte self.new result }
     {
         self.store.push(byte);
         if self.store.count() < 4 {
@@ -78,9 +76,7 @@ impl Receiver {
     // A byte of the data.
     fn take_data(&mut self, byte: u8) -> Reception
         requires { self.old.state ≡ State.Data }
-        ensures hears { (i : Identity) (level : Level) (m : Meaning) → heard i level m (wire_of self.old) byte ≡ heard_as i level m self.new result }
-        ensures free { busy_of self.new ≡ false }
-        ensures after { result ≡ Reception.Whole → self.new.state ≡ State.Between }
+        ensures { HearsWithin self.old byte self.new result }
     {
         self.store.push(byte);
         if self.store.count() == 4 + self.store.length_field() as usize {
@@ -92,9 +88,7 @@ impl Receiver {
     // A byte of the checksum. With its last byte the frame is whole.
     fn take_crc(&mut self, byte: u8) -> Reception
         requires { self.old.state ≡ State.Crc }
-        ensures hears { (i : Identity) (level : Level) (m : Meaning) → heard i level m (wire_of self.old) byte ≡ heard_as i level m self.new result }
-        ensures free { busy_of self.new ≡ false }
-        ensures after { result ≡ Reception.Whole → self.new.state ≡ State.Between }
+        ensures { HearsWithin self.old byte self.new result }
     {
         self.store.push(byte);
         if self.store.count() < 6 + self.store.length_field() as usize {
@@ -105,9 +99,8 @@ impl Receiver {
     }
 
     // What the receiver is busy with, if it is.
-    pub fn task(&self) -> Option<Task>
+    pub fn task(&self) -> Option<BoundedTask>
         ensures is_what_it_is_busy_with { result ≡ task_in self.now.state }
-        ensures its_numbers_are_bounded { IfSome result (λ t. bounded t ≡ true) }
     {
         match self.state {
             State::Busy(task) => Some(task),
@@ -119,10 +112,7 @@ impl Receiver {
     pub fn connected(&self) -> bool
         ensures tells_whether_it_is_connected { result ≡ (wire_of self.now).connected }
     {
-        match self.state {
-            State::Unconnected => false,
-            _ => true,
-        }
+        !matches!(self.state, State::Unconnected)
     }
 
     // The bytes of the open frame; none where no frame is open.
@@ -130,9 +120,7 @@ impl Receiver {
         ensures is_the_open_frame { result.now ≡ (wire_of self.now).frame }
     {
         match self.state {
-            State::Header => self.store.frame(),
-            State::Data => self.store.frame(),
-            State::Crc => self.store.frame(),
+            State::Header | State::Data | State::Crc => self.store.frame(),
             _ => &[],
         }
     }
@@ -154,16 +142,22 @@ impl Receiver {
     }
 
     // Becomes busy with a task, or goes on with it. A task that is not bounded is refused.
-    pub fn hold(&mut self, task: Task) -> bool
-        ensures tells_whether_the_task_is_bounded { result ≡ bounded task }
-        ensures is_busy_with_a_bounded_task { self.new.state ≡ (if bounded task then State.Busy task else self.old.state) }
+    pub fn hold(&mut self, task: Task) -> Result<(), UnboundedTask>
+        ensures tells_whether_the_task_is_bounded { IsOk result ↔ (bounded task ≡ true) }
+        ensures is_busy_with_a_bounded_task { OnOk result (IsSomeAnd (task_in self.new.state) (λ t. t.task ≡ task)) }
+        ensures is_as_it_was_where_it_is_refused { OnErr result (self.new.state ≡ self.old.state) }
         ensures keeps_the_frame { self.new.store ≡ self.old.store }
     {
-        if !task.bounded() {
-            return false;
-        }
+        self.hold_bounded(BoundedTask::try_from(task)?);
+        Ok(())
+    }
+
+    // Becomes busy with a bounded task, or goes on with it.
+    pub fn hold_bounded(&mut self, task: BoundedTask)
+        ensures is_busy_with_it { self.new.state ≡ State.Busy task }
+        ensures keeps_the_frame { self.new.store ≡ self.old.store }
+    {
         self.state = State::Busy(task);
-        true
     }
 
     // Is between frames again.

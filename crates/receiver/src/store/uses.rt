@@ -45,7 +45,7 @@ impl FrameStore {
         requires { 3 < length (held self.now) }
         ensures { result ≡ length_field (held self.now) }
     {
-        self.bytes[2] as u16 * 256 + self.bytes[3] as u16
+        u16::from_be_bytes([self.bytes[2], self.bytes[3]])
     }
 
     // The frame so far.

@@ -1,6 +1,6 @@
 // Tasks whose numbers can be added up, and whose option words are among the four.
 ghost use Rattle.std.specs.Prelude.{◌≡◌};
-ghost use Rattle.receiver.specs.States.{bounded as is_bounded};
+ghost use Rattle.receiver.specs.Tasks.{bounded as is_bounded};
 
 use crate::task::Task;
 
@@ -29,7 +29,7 @@ impl Task {
                 count,
                 done: _,
             } => count <= u32::MAX - first,
-            _ => true,
+            Task::Protecting | Task::Unprotecting { done: _ } | Task::AwaitingReset => true,
         }
     }
 }

@@ -18,5 +18,4 @@ returns g c =
     record {
       ends = λ s. c.replace_next.ensures.ends s ∙ ap (λ ws. left_by (options_portion m (options_replaced c.args.first ws m.options))) w;
       leaves = c.replace_next.ensures.leaves ∙ ap (λ ws. written (options_portion m (options_replaced c.args.first ws m.options)).writes m) w;
-      bounded = c.replace_next.ensures.bounded;
     }

@@ -14,7 +14,7 @@ returns g c =
     let n : length c.as_mut_slice.result.now ≡ c.args.room = c.as_mut_slice.ensures.len ∙ c.in_ok-buffer.ensures.len in
     let l : length buffer ≡ vector.len = search rules in
     let e = take_at buffer (drop (length buffer) vector.items) vector.len l in
-    let told = work_told p (length c.as_mut_slice.result.now) c.work-answer.result buffer c.as_mut_slice.result.now
+    let told = work_told tt p (length c.as_mut_slice.result.now) c.work-answer.result buffer c.as_mut_slice.result.now
     c.work-answer.ensures.answers_as_defined c.work-answer.ensures.puts_the_answer_and_no_more in (
       c.said_of_work.ensures ∙ ap (work_answer c.work-answer.result) e ∙ told ∙ ap (λ (x : ℕ). work_says p x) n,
       c.work-answer.ensures.leaves_the_part_as_defined ∙ ap (λ (x : ℕ). work_leaves p x) n,

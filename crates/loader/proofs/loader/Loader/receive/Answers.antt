@@ -1,4 +1,4 @@
-use Rattle.std.proofs.Common.{◌≡◌, ℕ, Bool, true, false, length, refl, ap, ◌∙◌, arith}
+use Rattle.std.proofs.Common.{◌≡◌, ℕ, Bool, true, false, length, refl, ap, ◌∙◌, arith, rules}
 use Rattle.frame.specs.Layout.{headed}
 use Rattle.receiver.specs.Receivers.{busy_of}
 use Rattle.loader.specs.Loaders.{received_as, said_bytes}
@@ -22,5 +22,5 @@ returns-in-Whole g c =
     record {
       answers_as_defined = c.obey.ensures.answers ∙ ap received_as h.0;
       leaves_the_part_as_defined = c.obey.ensures.leaves ∙ h.1;
-      puts_the_answer_and_no_more = c.obey.ensures.puts ∙ ap (λ s. headed (said_bytes s) c.args.buffer.now) h.0;
+      puts_the_answer_and_no_more = let puts = c.obey.ensures.puts.head ∙ ap (λ s. headed (said_bytes s) c.args.buffer.now) h.0 in let loan = c.obey.ensures.puts.loan in search rules;
     }

@@ -11,7 +11,7 @@ returns g c =
     let i = c.args.identity in
     let m = g.F.Flash.meaning c.args.flash in
     let sound = g.F.Flash.sound c.args.flash in
-    let e : part_of g.F.Flash.meaning (record { flash = c.args.flash; identity = i; level = c.level_in.result; last = None; receiver = c.new.result }) ≡ started i m = search rules in
+    let e : part_of g.F.Flash.meaning (record { flash = c.args.flash; identity = i; level = c.loaded_level-level.result; last = None; receiver = c.new.result }) ≡ started i m = search rules in
     record {
       is_a_part_as_it_starts = e;
       locked_twins_answer_alike_for_good = subst AnswersAsItsLockedTwins (sym e) (λ j n t. locked_twins_answer_alike i j m n sound t);
