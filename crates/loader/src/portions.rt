@@ -159,7 +159,7 @@ fn in_command(kind: Kind, answer: Result<Progress, MemoryFault>) -> Result<Progr
 {
     answer.map_err(|memory| CommandFault {
         memory,
-        command: kind.byte(),
+        command: u8::from(kind),
     })
 }
 

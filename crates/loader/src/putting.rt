@@ -2,15 +2,15 @@
 ghost use Rattle.std.specs.Prelude.{◌≡◌, ◌≤◌, [], ◌∷◌, length};
 ghost use Rattle.areas.specs.Words.{bytes_of_words};
 ghost use Rattle.commands.specs.Codes.{code_byte};
+ghost use Rattle.commands.specs.Kinds.{information_number};
 ghost use Rattle.frame.specs.Layout.{answer_head, framed};
 ghost use Rattle.memory.specs.Portions.{words_at};
-ghost use Rattle.part.specs.Levels.{level_byte as told_level};
 ghost use Rattle.part.specs.Receiving.{data_answer, information, version_told, device_told};
 ghost use Rattle.loader.specs.AnswerBuffers.{Puts};
 
 use crate::answer_buffer::AnswerBuffer;
 use areas::Area;
-use commands::{Code, Level, supported};
+use commands::{Code, Information, Level, supported};
 use flash::Flash;
 use frame::put_frame;
 use part::Identity;
@@ -32,7 +32,7 @@ impl AnswerBuffer<'_> {
         ensures count { result ≡ length (framed answer_head (code_byte code) content.now) }
         ensures puts { Puts (framed answer_head (code_byte code) content.now) self.old self.new }
     {
-        put_frame(self.bytes, 0xB3, code.byte(), content, &[]).unwrap_or(0)
+        put_frame(self.bytes, 0xB3, u8::from(code), content, &[]).unwrap_or(0)
     }
 
     // What Get tells.
@@ -41,17 +41,17 @@ impl AnswerBuffer<'_> {
         identity: &Identity,
         level: Level,
         pages: u32,
-        number: u8,
+        what: Information,
     ) -> usize
-        ensures count { result ≡ length (data_answer (information identity.now level pages number)) }
-        ensures puts { Puts (data_answer (information identity.now level pages number)) self.old self.new }
+        ensures count { result ≡ length (data_answer (information identity.now level pages (information_number what))) }
+        ensures puts { Puts (data_answer (information identity.now level pages (information_number what))) self.old self.new }
     {
-        match number {
-            0 => self.put_answer(Code::Done, &supported()),
-            1 => self.put_answer(Code::Done, &identity.uid),
-            2 => self.put_answer(Code::Done, &[level_byte(level)]),
-            3 => self.put_answer(Code::Done, &version_bytes(identity)),
-            _ => self.put_answer(Code::Done, &device_bytes(identity, pages)),
+        match what {
+            Information::Commands => self.put_answer(Code::Done, &supported()),
+            Information::Uid => self.put_answer(Code::Done, &identity.uid),
+            Information::Level => self.put_answer(Code::Done, &[u8::from(level)]),
+            Information::Version => self.put_answer(Code::Done, &version_bytes(identity)),
+            Information::Device => self.put_answer(Code::Done, &device_bytes(identity, pages)),
         }
     }
 
@@ -95,14 +95,4 @@ fn device_bytes(identity: &Identity, pages: u32) -> [u8; 6]
         sram_high,
         sram_low,
     ]
-}
-
-// The level as the byte that Get tells.
-fn level_byte(level: Level) -> u8
-    ensures { result ≡ told_level level }
-{
-    match level {
-        Level::Open => 0,
-        Level::Locked => 1,
-    }
 }

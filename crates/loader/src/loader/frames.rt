@@ -25,11 +25,11 @@ impl<F: Flash> Loader<F> {
         match decide(self.receiver.frame(), self.level, pages) {
             Order::Ignore => Received::Quiet,
             Order::Refuse(code) => Received::Bytes(buffer.put_answer(code, &[])),
-            Order::Tell(number) => Received::Bytes(buffer.put_information(
+            Order::Tell(what) => Received::Bytes(buffer.put_information(
                 &self.identity,
                 self.level,
                 pages,
-                number,
+                what,
             )),
             Order::Show { area, first, count } => {
                 Received::Bytes(buffer.put_words(&self.flash, area, first, count))

@@ -1,5 +1,6 @@
 use Rattle.std.proofs.Common.{ℕ, length, ap, ◌∙◌, refl, subst}
 use Rattle.areas.specs.Words.{bytes_of_words}
+use Rattle.commands.specs.Kinds.{information_number}
 use Rattle.memory.specs.Portions.{words_at}
 use Rattle.part.specs.Receiving.{quiet, replied, code_answer, data_answer, information}
 use Rattle.receiver.specs.declared.state.Order.TheVariants.{Ignore, Refuse, Tell, Show, Take}
@@ -39,9 +40,9 @@ pub returns-in-Tell : goal.returns-in-Tell
 returns-in-Tell g c =
     let m = g.F.Flash.meaning in
     let l = c.args.self.now in
-    let e = ordered m l (Tell c.in-Tell.number) c.frame.result.now c.pages-pages.result c.frame.ensures.is_the_frame c.frame.ensures.is_the_head_of_the_store
+    let e = ordered m l (Tell c.in-Tell.what) c.frame.result.now c.pages-pages.result c.frame.ensures.is_the_frame c.frame.ensures.is_the_head_of_the_store
     c.pages-pages.ensures.answer c.in-Tell.ensures.is_what_the_frame_asks_for in
-    let told = λ (pages : ℕ). data_answer (information l.identity l.level pages c.in-Tell.number) in
+    let told = λ (pages : ℕ). data_answer (information l.identity l.level pages (information_number c.in-Tell.what)) in
     let pages = c.pages-pages.ensures.answer in
     let done = subst (Obeyed (part_of m l) _ _ c.args.buffer.now _) e (record {
       answers = ap Bytes (c.put_information.ensures.count ∙ ap (λ (n : ℕ). length (told n)) pages);
