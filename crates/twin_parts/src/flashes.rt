@@ -1,5 +1,5 @@
 // Comparing two flashes of any kinds.
-ghost use Rattle.std.specs.Prelude.{◌≡◌, ◌↔◌, Decides, IsTrue, slice_index};
+ghost use Rattle.std.specs.Prelude.{◌≡◌, Decides, slice_index};
 ghost use Rattle.flash.specs.Meaning.{without_words};
 
 use flash::Flash;
