@@ -1,11 +1,12 @@
 -- What a line of the frame tool asks for, as numbers and bytes; and its text.
 use Rattle.std.specs.Prelude.{ℕ, ◌^◌, ◌<◌, List, [], ◌∷◌, map, vec_items, codes, decimal}
+use Rattle.std.specs.Global.{Vec}
 use Rattle.commands.specs.Fields.{Bytes}
 use Rattle.commands.specs.Requests.{Request, Fitting, get, read, write, memory_crc, erase, protect, unprotect}
 use Rattle.script.specs.declared.form.Form.{Form}
 use Rattle.script.specs.declared.form.Form.TheVariants as forms
-use Rattle.script.specs.declared.form.Order.{Order}
-use Rattle.script.specs.declared.form.Order.TheVariants.{Get, Read, Write, MemoryCrc, Erase, Protect, Unprotect}
+use Rattle.codec.specs.declared.request.Request.{Request as Order}
+use Rattle.codec.specs.Writing.{asked_by}
 use Rattle.script.specs.declared.form.Verb.{Verb}
 use Rattle.script.specs.declared.form.Verb.TheVariants as verbs
 use Rattle.text.specs.Digits.{hex_byte, hex_short, hex_long}
@@ -20,14 +21,8 @@ pub data Asked : Type 0 where
   verdict : ℕ → ℕ → List ℕ → Asked
 
 -- what an order and a form ask for, without their vectors
-abbrev pub ordered : Order → Request
-ordered (Get information) = get information
-ordered (Read address count) = read address count
-ordered (Write address bytes) = write address (vec_items bytes)
-ordered (MemoryCrc address count value) = memory_crc address count value
-ordered (Erase mode index count) = erase mode index count
-ordered Protect = protect
-ordered Unprotect = unprotect
+abbrev pub ordered : Order (Vec ℕ) → Request
+ordered = asked_by vec_items
 
 abbrev pub meant : Form → Asked
 meant (forms.Request order) = request (ordered order)

@@ -1,5 +1,5 @@
 -- What a line asks for is read back from its text, and is all that is read.
-use Rattle.std.proofs.Common.{◌≡◌, ℕ, List, [], ◌∷◌, Some, Option, refl, ◌∙◌, subst, ap₂, arith}
+use Rattle.std.proofs.Common.{◌≡◌, ℕ, List, ◌∷◌, Some, refl, ◌∙◌, subst, ap₂, arith}
 use Rattle.std.specs.List.{AllByRecursion as All}
 use Rattle.commands.specs.Requests.{get, read, write, memory_crc, erase, protect, unprotect}
 use Rattle.text.proofs.Asking.{among_only, given_back, bytes_taken_back, taken_only, ended_only, bytes_taken_only}

@@ -1,4 +1,5 @@
 // What a line of the frame tool asks for.
+use codec::Request;
 
 // The word that a line begins with.
 #[derive(Clone, Copy)]
@@ -15,32 +16,7 @@ pub enum Verb {
 }
 
 // A request that owns its bytes.
-#[derive(Drop)]
-pub enum Order {
-    Get {
-        information: u8,
-    },
-    Read {
-        address: u32,
-        count: u16,
-    },
-    Write {
-        address: u32,
-        bytes: Vec<u8>,
-    },
-    MemoryCrc {
-        address: u32,
-        count: u32,
-        value: u16,
-    },
-    Erase {
-        mode: u8,
-        index: u32,
-        count: u32,
-    },
-    Protect,
-    Unprotect,
-}
+pub type Order = Request<Vec<u8>>;
 
 // A line: a request to be written as a frame, an answer frame to be read, or a frame to be judged.
 #[derive(Drop)]

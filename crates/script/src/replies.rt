@@ -6,10 +6,10 @@ ghost use Rattle.codec.specs.Verdict.{verdict_of};
 ghost use Rattle.codec.specs.Writing.{asking, written};
 ghost use Rattle.script.specs.Answering.{local_line, frame_line, said_line, verdict_line, answer_to, Replied};
 ghost use Rattle.text.specs.Digits.{hex_byte};
-ghost use Rattle.script.specs.Forms.{ordered, meant};
+ghost use Rattle.script.specs.Forms.{meant};
 ghost use Rattle.text.specs.Lines.{line_text};
 
-use crate::form::{Form, Order};
+use crate::form::Form;
 use crate::parser::parse;
 use codec::{Request, read_answer, verdict, write_request};
 use commands::{Code, Local, Refusal};
@@ -20,7 +20,7 @@ use text::Line;
 fn code_line(heap: Global, word: &[u8], code: Code) -> Result<Vec<u8>, AllocError>
     ensures { IfOk result (λ v. v.items ≡ line_text word.now (hex_byte (code_byte code) ∷ [])) }
 {
-    Line::new(heap, word)?.hexadecimal(code.byte())?.finish()
+    Line::new(heap, word)?.hexadecimal(u8::from(code))?.finish()
 }
 
 // A local refusal.
@@ -28,7 +28,7 @@ fn local_line(heap: Global, local: Local) -> Result<Vec<u8>, AllocError>
     ensures { IfOk result (λ v. v.items ≡ local_line local) }
 {
     Line::new(heap, b"local")?
-        .number(heap, local.number() as u32)?
+        .number(heap, u8::from(local) as u32)?
         .finish()
 }
 
@@ -50,7 +50,7 @@ fn refusal_line(heap: Global, refusal: Refusal) -> Result<Vec<u8>, AllocError>
 }
 
 // The frame of a request, or its refusal.
-fn request_line(heap: Global, request: Request<'_>) -> Result<Vec<u8>, AllocError>
+fn request_line(heap: Global, request: Request<&[u8]>) -> Result<Vec<u8>, AllocError>
     ensures { IfOk result (λ v. v.items ≡ frame_line (written (asking request.entry))) }
 {
     let mut buffer = [0u8; 522];
@@ -66,7 +66,7 @@ fn said_line(heap: Global, frame: &[u8]) -> Result<Vec<u8>, AllocError>
 {
     match read_answer(frame) {
         Ok(answer) => Line::new(heap, b"code")?
-            .hexadecimal(answer.code.byte())?
+            .hexadecimal(u8::from(answer.code))?
             .bytes(answer.bytes)?
             .finish(),
         Err(local) => local_line(heap, local),
@@ -83,51 +83,12 @@ fn verdict_line(heap: Global, frame: &[u8], level: u32, pages: u32) -> Result<Ve
     }
 }
 
-impl Order {
-    // The request, with its bytes lent.
-    pub fn request(&self) -> Request<'_>
-        ensures is_the_request_of_the_order { asking result ≡ ordered self.now }
-    {
-        match self {
-            Order::Get { information } => Request::Get {
-                information: *information,
-            },
-            Order::Read { address, count } => Request::Read {
-                address: *address,
-                count: *count,
-            },
-            Order::Write { address, bytes } => Request::Write {
-                address: *address,
-                bytes: bytes.as_slice(),
-            },
-            Order::MemoryCrc {
-                address,
-                count,
-                value,
-            } => {
-                Request::MemoryCrc {
-                    address: *address,
-                    count: *count,
-                    value: *value,
-                }
-            }
-            Order::Erase { mode, index, count } => Request::Erase {
-                mode: *mode,
-                index: *index,
-                count: *count,
-            },
-            Order::Protect => Request::Protect,
-            Order::Unprotect => Request::Unprotect,
-        }
-    }
-}
-
 // The line that answers a form.
 pub fn answer_line(heap: Global, form: &Form) -> Result<Vec<u8>, AllocError>
     ensures is_what_the_form_asks_for { IfOk result (λ v. v.items ≡ answer_to (meant form.now)) }
 {
     match form {
-        Form::Request(order) => request_line(heap, order.request()),
+        Form::Request(order) => request_line(heap, order.lent()),
         Form::Answer { bytes } => said_line(heap, bytes.as_slice()),
         Form::Verdict {
             level,
