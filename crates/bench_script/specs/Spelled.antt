@@ -1,7 +1,7 @@
 -- What a line asks a bench for is read back from its text, and is all that is read.
 use Rattle.std.proofs.Common.{◌≡◌, ℕ, ◌≤◌, ◌&&◌, leb, List, [], ◌∷◌, length, Some, None, Option, refl, ap, ◌∙◌, subst, ap₂, arith}
 use Rattle.std.proofs.lemmas.Bool.{cond_both, cond-true, and_parts, and_from, leb-true, le-leb}
-use Rattle.std.specs.List.{AllByRecursion as All}
+use Rattle.std.specs.List.{AllByRecursion}
 use Rattle.text.proofs.Asking.{among_only, bytes_back, bytes_only, given_back, taken_only, ended_only}
 use Rattle.text.proofs.Numbers.{up_to_back, up_to_only}
 use Rattle.text.proofs.Plain.{plain_decimal, plain_bytes, plain_from}
@@ -20,7 +20,7 @@ plain_verb Work = plain_from (verb_text Work) refl
 plain_verb Reset = plain_from (verb_text Reset) refl
 plain_verb Fault = plain_from (verb_text Fault) refl
 
-plain_words : (a : Asked) → Fits a → All Plain (words_for a)
+plain_words : (a : Asked) → Fits a → AllByRecursion Plain (words_for a)
 plain_words (receive bs) h = plain_bytes bs
 plain_words (work n) h = (plain_decimal n (omega arith), tt)
 plain_words reset h = tt

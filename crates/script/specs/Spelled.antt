@@ -1,6 +1,6 @@
 -- What a line asks for is read back from its text, and is all that is read.
 use Rattle.std.proofs.Common.{◌≡◌, ℕ, List, ◌∷◌, Some, refl, ◌∙◌, subst, ap₂, arith}
-use Rattle.std.specs.List.{AllByRecursion as All}
+use Rattle.std.specs.List.{AllByRecursion}
 use Rattle.commands.specs.Requests.{get, read, write, memory_crc, erase, protect, unprotect}
 use Rattle.text.proofs.Asking.{among_only, given_back, bytes_taken_back, taken_only, ended_only, bytes_taken_only}
 use Rattle.text.proofs.Numbers.{up_to_back, up_to_only}
@@ -26,7 +26,7 @@ plain_verb Unprotect = plain_from (verb_text Unprotect) refl
 plain_verb Answer = plain_from (verb_text Answer) refl
 plain_verb Verdict = plain_from (verb_text Verdict) refl
 
-plain_words : (a : Asked) → Fits a → All Plain (words_for a)
+plain_words : (a : Asked) → Fits a → AllByRecursion Plain (words_for a)
 plain_words (request (get n)) h = (plain_decimal n (omega arith), tt)
 plain_words (request (read a n)) h = (plain_long a, (plain_decimal n (omega arith), tt))
 plain_words (request (write a bs)) h = (plain_long a, plain_bytes bs)

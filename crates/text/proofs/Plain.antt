@@ -5,7 +5,7 @@ use Rattle.std.proofs.ByRecursion.{All-append, All-from_get_or}
 use Rattle.std.proofs.lemmas.Str.Parse.{not_in_digits}
 use Rattle.std.proofs.lemmas.Bool.{and_parts, eqb-false, not-true}
 use Rattle.std.proofs.lemmas.Bool.Decides.{nat_tests}
-use Rattle.std.specs.List.{AllByRecursion as All}
+use Rattle.std.specs.List.{AllByRecursion}
 use Rattle.text.specs.Digits.{hex_digit, hex_byte, hex_short, hex_long}
 use Rattle.text.proofs.Numbers.{own}
 use Rattle.text.specs.Lines.{Plain}
@@ -27,7 +27,7 @@ plain_decimal n h =
     All-from_get_or (λ c. c ≡ 32 → ⊥) (decimal n) 0
     (λ i l e. not_in_digits own (decimal n) 32 (digits_decimal own n (omega arith)) (λ p. omega arith) i l e)
 
-pub plain_bytes : (bs : List ℕ) → All Plain (map hex_byte bs)
+pub plain_bytes : (bs : List ℕ) → AllByRecursion Plain (map hex_byte bs)
 plain_bytes [] = tt
 plain_bytes (b ∷ bs) = (plain_byte b, plain_bytes bs)
 

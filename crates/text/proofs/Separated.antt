@@ -3,7 +3,7 @@ use Rattle.std.proofs.Common.{◌≡◌, ℕ, suc, ◌+◌, ◌-◌, ◌<◌, �
 use Rattle.std.proofs.lemmas.List.{append_assoc, append-nil, length-append, length-drop, take_at, take_all, take_more, drop_more, get_or_at, get_or-drop}
 use Rattle.std.proofs.lemmas.Bool.{cond_both, cond-true, cond-false, ne_eqb, and_parts, and_from, eqb-true, leb-true, le-leb, eq-eqb}
 use Rattle.std.specs.Option.{option_map}
-use Rattle.std.specs.List.{AllByRecursion as All}
+use Rattle.std.specs.List.{AllByRecursion}
 use Rattle.text.specs.Lines.{Plain, more_words, line_text, lengthened, pieces, inside, words_in, wordless}
 use Rattle.text.proofs.Cuts.{pieces_some}
 
@@ -20,7 +20,7 @@ pieces_first : (w s : List ℕ) → Plain w → pieces (w ++ (32 ∷ s)) ≡ w �
 pieces_first [] s p = refl
 pieces_first (c ∷ cs) s p = cond-false _ _ _ (ne_eqb c 32 p.0) ∙ ap (lengthened c) (pieces_first cs s p.1)
 
-pub pieces_spaced : (w : List ℕ) (ws : List (List ℕ)) → Plain w → All Plain ws → pieces (w ++ more_words ws) ≡ w ∷ ws
+pub pieces_spaced : (w : List ℕ) (ws : List (List ℕ)) → Plain w → AllByRecursion Plain ws → pieces (w ++ more_words ws) ≡ w ∷ ws
 pieces_spaced w [] p q = ap pieces (append-nil w) ∙ pieces_last w p
 pieces_spaced w (v ∷ ws) p q = pieces_first w (v ++ more_words ws) p ∙ ap (λ vs. w ∷ vs) (pieces_spaced v ws q.0 q.1)
 
@@ -74,7 +74,7 @@ inside_only l s e =
     e
 
 -- the words of a line's text are the words that it was made of, and no other line has them
-pub words_back : (w : List ℕ) (ws : List (List ℕ)) → Plain w → All Plain ws → words_in (line_text w ws) ≡ Some (w ∷ ws)
+pub words_back : (w : List ℕ) (ws : List (List ℕ)) → Plain w → AllByRecursion Plain ws → words_in (line_text w ws) ≡ Some (w ∷ ws)
 words_back w ws p q =
     ap (λ s. words_in (40 ∷ s)) (sym (append_assoc w (more_words ws) (41 ∷ [])))
     ∙ ap (option_map pieces) (inside_back (w ++ more_words ws)) ∙ ap Some (pieces_spaced w ws p q)

@@ -1,6 +1,6 @@
 -- Reading a line word by word: its first word tells how the words behind it are read. Of any verbs, and of anything that a line can ask for.
 use Rattle.std.specs.Prelude.{◌≡◌, ℕ, cond, List, [], ◌∷◌, Some, None, Option}
-use Rattle.std.specs.List.{AllByRecursion as All}
+use Rattle.std.specs.List.{AllByRecursion}
 use Rattle.std.specs.Option.{option_map}
 use Rattle.std.specs.Str.{bytes_eq}
 use Rattle.text.specs.Digits.{byte_in}
@@ -45,7 +45,7 @@ asked_by_verb verb_in asked_by l = asked_or_none (taken verb_in asked_by) (words
 pub record Spelling {V A : Type 0} (verb_text : V → List ℕ) (verb_in : List ℕ → Option V) (asked_by : V → List (List ℕ) → Option A)
     (verb_for : A → V) (words_for : A → List (List ℕ)) (fits : A → Type 0) : Type 0 where
   pub plain_verb : (v : V) → Plain (verb_text v)
-  pub plain_words : (a : A) → fits a → All Plain (words_for a)
+  pub plain_words : (a : A) → fits a → AllByRecursion Plain (words_for a)
   pub verb_back : (v : V) → verb_in (verb_text v) ≡ Some v
   pub verb_only : (w : List ℕ) (v : V) → verb_in w ≡ Some v → verb_text v ≡ w
   pub asked_back : (a : A) → fits a → asked_by (verb_for a) (words_for a) ≡ Some a

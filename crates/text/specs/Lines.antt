@@ -1,11 +1,11 @@
 -- A line of words: `(`, which is 40, the words with one blank, 32, between any two, and `)`, which is 41.
 use Rattle.std.specs.Prelude.{◌≡◌, ℕ, ◌-◌, Bool, true, false, cond, ◌&&◌, List, [], ◌∷◌, ◌++◌, length, take, drop, Some, None, Option, ◌==◌, nat_le, slice_index}
-use Rattle.std.specs.List.{flat_map, AllByRecursion as All}
+use Rattle.std.specs.List.{flat_map, AllByRecursion}
 use Rattle.std.specs.Option.{option_map}
 
 -- a word with no blank in it
 abbrev pub Plain : List ℕ → Type 0
-Plain w = All (λ c. c ≡ 32 → ⊥) w
+Plain w = AllByRecursion (λ c. c ≡ 32 → ⊥) w
 
 -- some more words, each behind a blank
 abbrev pub more_words : List (List ℕ) → List ℕ

@@ -18,8 +18,8 @@ loop-low-preserved c =
     let inside : i < n = omega arith in
     let fits : get_or xs (2 * i + 1) 0 < 2 ^ 8 = omega (arith, c.type_inv.bytes (2 * i + 1)) in
     let low : get_or (get_or pairs i []) 0 0 ≡ get_or xs (2 * i) 0 =
-        let start : 2 * i + 0 ≡ 2 * i = omega arith in
-        rw chunks (chunk_at 2 n i xs 0 inside (omega arith) ∙ ap (λ (k : ℕ). get_or xs k 0) start) in
+    let start : 2 * i + 0 ≡ 2 * i = omega arith in
+    rw chunks (chunk_at 2 n i xs 0 inside (omega arith) ∙ ap (λ (k : ℕ). get_or xs k 0) start) in
     let high : get_or (get_or pairs i []) 1 0 ≡ get_or xs (2 * i + 1) 0 = rw chunks (chunk_at 2 n i xs 1 inside (omega arith)) in
     let pair = feeds_pair c.loop-low.s xs i inside in
     let two = feed_two c.loop-low.s (get_or xs (2 * i) 0) (get_or xs (2 * i + 1) 0) fits in
@@ -35,8 +35,8 @@ returns-in-len1-up c =
     let end : 2 * c.loop-low.low-index + 1 ≡ length xs = omega (arith, c.loop-low-test.false, c.loop-low.auto.low-index-end, c.in-len1-up.len_at_least) in
     let last = feeds_last c.loop-low.s xs (2 * c.loop-low.low-index) end in
     let byte : get_or c.as_chunks.result.1.now 0 0 ≡ get_or xs (length xs - 1) 0 =
-        let place : length xs / 2 * 2 + 0 ≡ length xs - 1 = omega (arith, c.in-len1-up.len_at_least) in
-        rw c.as_chunks.ensures.back (get_or-drop (length xs / 2 * 2) xs 0 0 ∙ ap (λ (k : ℕ). get_or xs k 0) place) in
+    let place : length xs / 2 * 2 + 0 ≡ length xs - 1 = omega (arith, c.in-len1-up.len_at_least) in
+    rw c.as_chunks.ensures.back (get_or-drop (length xs / 2 * 2) xs 0 0 ∙ ap (λ (k : ℕ). get_or xs k 0) place) in
     let whole : c.one_byte.result ≡ feeds c.args.register xs = rw (c.one_byte.ensures, byte) (sym last ∙ c.loop-low.invariant) in
     record { fed = whole; stretches_join = joins c.args.register xs c.one_byte.result whole }
 
