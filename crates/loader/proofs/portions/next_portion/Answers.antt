@@ -8,7 +8,7 @@ returns-in_err-in_command-in-Setting g c = let e = c.set_next.ensures.ends c.arg
 pub returns-in_ok-in_command-in-Setting : goal.returns-in_ok-in_command-in-Setting
 returns-in_ok-in_command-in-Setting g c =
     let e = c.set_next.ensures.ends c.args.store.now in
-    let within = set_within c.in-Setting.first c.in-Setting.words c.args.store.now (g.F.Flash.meaning c.args.flash.now).options c.args.task c.in-Setting.is c.requires.sums_fit (g.F.Flash.sound c.args.flash.now).four in
+    let within = set_within c.in-Setting.first c.in-Setting.words c.args.store.now (g.F.Flash.meaning c.args.flash.now).options c.args.task c.in-Setting.is c.requires.sums_fit (g.met.F.Flash.sound c.args.flash.now).four in
     search rules
 
 pub returns-in_err-in_command-in-Erasing : goal.returns-in_err-in_command-in-Erasing

@@ -12,5 +12,5 @@ no_page m p f e = grind (arith, nat_tests)
 pub returns-in-Err : goal.returns-in-Err
 returns-in-Err g c =
     let m = g.F.Flash.meaning c.args.flash.now in
-    let n = (g.F.Flash.sound c.args.flash.now).counted in
+    let n = (g.met.F.Flash.sound c.args.flash.now).counted in
     sym (get_or_past m.erases_left c.args.page 0 (omega (arith, n, no_page m c.args.page _ c.in-Err.ensures.answer)))
