@@ -7,8 +7,6 @@ use crate::fault::FlashFault;
 pub trait Flash {
     ghost meaning: { Self → Meaning };
 
-    ghost sound: { (x : Self) → Sound (meaning x) };
-
     ghost lent: { Self → Lent } = { λ _. nothing_lent };
 
     fn pages(&self) -> u32
@@ -40,4 +38,6 @@ pub trait Flash {
         ensures answer { result ≡ options_answer (meaning self.old) }
         ensures leaves { meaning self.new ≡ options_leaves (meaning self.old) words }
         ensures loans { lent self.new ≡ lent self.old };
+
+    ghost sound: { (x : Self) → Sound (meaning x) };
 }

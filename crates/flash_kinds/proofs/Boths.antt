@@ -1,10 +1,11 @@
 -- Two lists joined place by place: what a change of both does.
 use Rattle.std.proofs.Common.{◌≡◌, ℕ, zero, suc, ◌-◌, ◌<◌, min, List, [], ◌∷◌, map, length, get_or, take, set, replicate, sym, refl, ap, ◌∙◌, arith}
+use Rattle.std.proofs.Math.ListN.{get_or-map}
 use Rattle.std.proofs.lemmas.List.{get_or-take, length-map}
 use Rattle.flash_kinds.specs.declared.record.PageRecord.{PageRecord}
 use Rattle.flash.specs.Lists.{both, overwritten}
 use Rattle.flash_kinds.specs.Tables.{left_of, once_more, no_record}
-use Rattle.flash_kinds.proofs.Changes.{left_at, lefts_once_more}
+use Rattle.flash_kinds.proofs.Changes.{lefts_once_more}
 
 module _ (f : ℕ → ℕ → ℕ) where
   pub both_set : (xs ys : List ℕ) (i x y : ℕ) → both f (set xs i x) (set ys i y) ≡ set (both f xs ys) i (f x y)
@@ -40,7 +41,7 @@ least_within n ls hs p h l k =
     let has_low : p < length (map left_of ls) = simp length-map l in
     let has_high : p < length (map left_of hs) = simp length-map k in
     get_or-take n (both min (map left_of ls) (map left_of hs)) p 0 h
-    ∙ get_or_both min (map left_of ls) (map left_of hs) p has_low has_high ∙ (λ j. min (left_at ls p j) (left_at hs p j))
+    ∙ get_or_both min (map left_of ls) (map left_of hs) p has_low has_high ∙ (λ j. min (get_or-map left_of ls p no_record j) (get_or-map left_of hs p no_record j))
 
 -- the smaller of the erases left falls by one where each table counts one more erase
 pub least_less : (ls ls' hs hs' : List PageRecord) (p : ℕ) → p < length ls → p < length hs →

@@ -1,5 +1,7 @@
 -- What a change of the tables does to their meaning.
-use Rattle.std.proofs.Common.{◌≡◌, ℕ, zero, suc, ◌+◌, ◌-◌, ◌*◌, ◌%◌, ◌^◌, ◌<◌, ◌≤◌, List, [], ◌∷◌, map, length, get_or, take, drop, set, replicate, sym, refl, ap, ◌∙◌, mod-eq_of_lt, arith}
+use Rattle.std.proofs.Common.{◌≡◌, ℕ, ◌+◌, ◌-◌, ◌*◌, ◌%◌, ◌^◌, ◌<◌, ◌≤◌, List, [], ◌∷◌, map, length, get_or, take, drop, set, replicate, sym, refl, ap, ◌∙◌, mod-eq_of_lt, arith}
+use Rattle.std.proofs.Math.ListN.{get_or-map}
+use Rattle.std.proofs.Math.Seq.{take-set-lt, map-set_same}
 use Rattle.std.proofs.lemmas.List.{get_or-take, map-set, drop-set-lt}
 use Rattle.flash_kinds.specs.declared.record.PageRecord.{PageRecord}
 use Rattle.flash.specs.Lists.{overwritten, as_words}
@@ -14,21 +16,10 @@ pub read_as_word : (n : ℕ) (ws : List ℕ) (i r : ℕ) → i < n → r < 2 ^ 3
     r ≡ get_or (as_words n ws) i 0
 read_as_word n ws i r h f e = sym (get_or_as_words n ws i h ∙ ap (λ x. x % 2 ^ 32) (sym e) ∙ mod-eq_of_lt f)
 
-take_set_any : (n : ℕ) (xs : List ℕ) (i v : ℕ) → take n (set xs i v) ≡ set (take n xs) i v
-take_set_any zero xs i v = refl
-take_set_any (suc n) [] i v = refl
-take_set_any (suc n) (x ∷ xs) zero v = refl
-take_set_any (suc n) (x ∷ xs) (suc i) v = ap (λ ys. x ∷ ys) (take_set_any n xs i v)
-
-pub left_at : (rs : List PageRecord) (p : ℕ) → get_or (map left_of rs) p 0 ≡ left_of (get_or rs p no_record)
-left_at [] p = refl
-left_at (r ∷ rs) zero = refl
-left_at (r ∷ rs) (suc p) = left_at rs p
-
 -- the erases left of a page of the first n
 pub left_within : (n : ℕ) (rs : List PageRecord) (p : ℕ) → p < n →
     get_or (take n (map left_of rs)) p 0 ≡ left_of (get_or rs p no_record)
-left_within n rs p h = get_or-take n (map left_of rs) p 0 h ∙ left_at rs p
+left_within n rs p h = get_or-take n (map left_of rs) p 0 h ∙ get_or-map left_of rs p no_record
 
 -- one more erase made is one less left
 pub lefts_once_more : (rs after : List PageRecord) (p : ℕ) → after ≡ set rs p (once_more (get_or rs p no_record)) →
@@ -36,7 +27,7 @@ pub lefts_once_more : (rs after : List PageRecord) (p : ℕ) → after ≡ set r
 lefts_once_more rs after p a =
     let r = get_or rs p no_record in
     let less : left_of (once_more r) ≡ left_of r - 1 = omega arith in
-    let at = left_at rs p in
+    let at = get_or-map left_of rs p no_record in
     let e = map-set left_of rs p (once_more r) in
     ap (λ xs. map left_of xs) a ∙ e ∙ ap (λ x. set (map left_of rs) p x) (less ∙ ap (λ x. x - 1) (sym at))
 
@@ -61,7 +52,7 @@ module _ (pages pages' : ℕ) (words words' lefts lefts' options : List ℕ) (wr
       ≡ written (erase_page p) (tables_meaning pages words lefts options writes)
   unfolding page_written blank_page
   tables_erased p ps ws ls h l =
-      let left = take_set_any pages lefts p _ ∙ ap (λ x. set (take pages lefts) p (x - 1)) (sym (get_or-take pages lefts p 0 h)) in
+      let left = take-set-lt pages lefts p _ h ∙ ap (λ x. set (take pages lefts) p (x - 1)) (sym (get_or-take pages lefts p 0 h)) in
       (λ j. tables_meaning (ps j) (ws j) (ls j) options writes)
       ∙ same_meaning _ _ refl (as_words_overwritten (128 * p) (replicate 128 blank) (128 * pages) words l) refl left refl
 
@@ -73,12 +64,6 @@ outside_set pages pages' cells cells' records i v ps cs h =
     ∙ ap (λ rest. rest ∷ map (λ r. r.allowed) records ∷ map (λ r. r.made + left_of r) records ∷ map (λ r. r.made) (drop pages records) ∷ [])
     (drop-set-lt (128 * pages) cells i v h)
 
-map_kept : {B : Type 0} (f : PageRecord → B) (rs : List PageRecord) (p : ℕ) (r : PageRecord) →
-    f r ≡ f (get_or rs p no_record) → map f (set rs p r) ≡ map f rs
-map_kept f [] p r e = refl
-map_kept f (x ∷ rs) zero r e = ap (λ y. y ∷ map f rs) e
-map_kept f (x ∷ rs) (suc p) r e = ap (λ ys. f x ∷ ys) (map_kept f rs p r e)
-
 pub outside_erased : (blank pages pages' : ℕ) (cells cells' : List ℕ) (records records' : List PageRecord) (p : ℕ) →
     pages' ≡ pages → cells' ≡ overwritten (128 * p) (replicate 128 blank) cells →
     records' ≡ set records p (once_more (get_or records p no_record)) → p < pages → 0 < left_of (get_or records p no_record) →
@@ -88,7 +73,7 @@ outside_erased blank pages pages' cells cells' records records' p ps cs rs h l =
     let within : 128 * p + 128 ≤ 128 * pages = omega arith in
     let both : r.made + 1 + left_of (once_more r) ≡ r.made + left_of r = omega arith in
     let rest = drop_overwritten (128 * pages) (128 * p) (replicate 128 blank) cells within in
-    let allowed = map_kept (λ y. y.allowed) records p (once_more r) refl in
-    let total = map_kept (λ y. y.made + left_of y) records p (once_more r) both in
+    let allowed = map-set_same (λ y. y.allowed) records p (once_more r) no_record refl in
+    let total = map-set_same (λ y. y.made + left_of y) records p (once_more r) no_record both in
     let made = ap (λ xs. map (λ y. y.made) xs) (drop-set-lt pages records p (once_more r) h) in
     (λ j. outside_of (ps j) (cs j) (rs j)) ∙ (λ j. rest j ∷ allowed j ∷ total j ∷ made j ∷ [])

@@ -26,7 +26,7 @@ word_greatest words records =
     greatest_blocks (Fill words records) (filled_pages words records) (omega arith)
     (λ q h. (omega arith, omega arith)) (λ q l f. omega arith)
 
-tables_sound : (pages : ℕ) (words lefts options : List ℕ) (writes : ℕ) → pages % 8 ≡ 0 → pages ≤ 1024 →
+pub tables_sound : (pages : ℕ) (words lefts options : List ℕ) (writes : ℕ) → pages % 8 ≡ 0 → pages ≤ 1024 →
     pages ≤ length lefts → Sound (tables_meaning pages words lefts options writes)
 tables_sound pages words lefts options writes eights most has = record {
   eights = eights;

@@ -42,4 +42,4 @@ pub returns-clause-blank : goal.returns-clause-blank
 returns-clause-blank g c =
     let before = g.F.Flash.meaning c.args.flash.now in
     let all : Erased = record { done = c.args.count; refused = None } in
-    blank_range before (g.F.Flash.meaning c.loop-done.flash) all c.args.first c.args.count (g.F.Flash.sound c.args.flash.now) (search rules) (search rules)
+    blank_range before (g.F.Flash.meaning c.loop-done.flash) all c.args.first c.args.count (g.met.F.Flash.sound c.args.flash.now) (search rules) (search rules)

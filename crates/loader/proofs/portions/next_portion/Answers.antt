@@ -5,7 +5,7 @@ use Rattle.loader.proofs.portions.next_portion.Goals as goal
 pub returns-in-Setting : goal.returns-in-Setting
 returns-in-Setting g c =
     let e = c.set_next.ensures.ends c.args.store.now in
-    let within = set_within c.in-Setting.first c.in-Setting.words c.args.store.now (g.F.Flash.meaning c.args.flash.now).options c.args.task.task c.in-Setting.is c.args.task.fits (g.F.Flash.sound c.args.flash.now).four in
+    let within = set_within c.in-Setting.first c.in-Setting.words c.args.store.now (g.F.Flash.meaning c.args.flash.now).options c.args.task.task c.in-Setting.is c.args.task.fits (g.met.F.Flash.sound c.args.flash.now).four in
     search rules
 
 pub returns-in-Erasing-clause-ends : goal.returns-in-Erasing-clause-ends

@@ -10,7 +10,7 @@ pub returns : goal.returns
 returns g c =
     let i = c.args.identity in
     let m = g.F.Flash.meaning c.args.flash in
-    let sound = g.F.Flash.sound c.args.flash in
+    let sound = g.met.F.Flash.sound c.args.flash in
     let e : part_of g.F.Flash.meaning (record { flash = c.args.flash; identity = i; level = c.loaded_level-level.result; last = None; receiver = c.new.result }) ≡ started i m = search rules in
     record {
       is_a_part_as_it_starts = e;
