@@ -14,110 +14,96 @@ use std::io::{BufRead, BufReader, Write};
 // A buffer that suffices for every answer.
 const ROOM: usize = 518;
 
-// Adds a line to what is printed.
-fn add(text: &mut Vec<u8>, line: Vec<u8>) -> Result<(), AllocError> {
-    text.extend_from_slice(line.as_slice())?;
-    text.push(b'\n')?;
-    Ok(())
-}
-
-// Prints what is no answer's bytes.
-fn print(heap: Global, text: &mut Vec<u8>, said: Said) -> Result<(), AllocError> {
-    add(text, said_line(heap, said)?)
-}
-
-// Prints what an event was answered with.
-fn print_answer(heap: Global, text: &mut Vec<u8>, said: &runs::Said) -> Result<(), AllocError> {
-    match said {
-        runs::Said::Nothing => Ok(()),
-        runs::Said::SmallBuffer => Ok(()),
-        runs::Said::Silent => Ok(()),
-        runs::Said::Accepted => print(heap, text, Said::Taken),
-        runs::Said::Resting => print(heap, text, Said::Idle),
-        runs::Said::Ongoing => print(heap, text, Said::Going),
-        runs::Said::Bytes(bytes) => add(text, out_line(heap, bytes.as_slice())?),
-        runs::Said::BytesAndTicket(bytes) => add(text, out_line(heap, bytes.as_slice())?),
-        runs::Said::Fault(report) => print(heap, text, Said::Fault { report: *report }),
-    }
-}
-
-// Gives bytes to the part, one after the other.
-fn receive<F: Flash>(
+// A part, and what is printed for the line at hand.
+struct Bench<F: Flash> {
     heap: Global,
-    part: &mut Running<F>,
-    bytes: &[u8],
-    text: &mut Vec<u8>,
-) -> Result<(), AllocError> {
-    for byte in bytes {
-        let row = do_event(
-            heap,
-            part,
-            Event::Byte {
-                byte: *byte,
-                room: ROOM,
-            },
-        )?;
-        print_answer(heap, text, &row.said)?;
-    }
-    Ok(())
+    part: Running<F>,
+    text: Vec<u8>,
 }
 
-// Calls work until there is an answer, at most so often, and prints the answer of the last call.
-fn work<F: Flash>(
-    heap: Global,
-    part: &mut Running<F>,
-    calls: u32,
-    text: &mut Vec<u8>,
-) -> Result<(), AllocError> {
-    for left in 0..calls {
-        let row = do_event(heap, part, Event::Work { room: ROOM })?;
-        match row.said {
-            runs::Said::Resting if left + 1 < calls => {}
-            runs::Said::Ongoing if left + 1 < calls => {}
-            said => return print_answer(heap, text, &said),
+impl<F: Flash> Bench<F> {
+    // Adds a line to what is printed.
+    fn add(&mut self, line: Vec<u8>) -> Result<(), AllocError> {
+        self.text.extend_from_slice(line.as_slice())?;
+        self.text.push(b'\n')?;
+        Ok(())
+    }
+
+    // Prints what is no answer's bytes.
+    fn print(&mut self, said: Said) -> Result<(), AllocError> {
+        let line = said_line(self.heap, said)?;
+        self.add(line)
+    }
+
+    // Prints what an event was answered with.
+    fn print_answer(&mut self, said: &runs::Said) -> Result<(), AllocError> {
+        match said {
+            runs::Said::Nothing | runs::Said::SmallBuffer | runs::Said::Silent => Ok(()),
+            runs::Said::Accepted => self.print(Said::Taken),
+            runs::Said::Resting => self.print(Said::Idle),
+            runs::Said::Ongoing => self.print(Said::Going),
+            runs::Said::Bytes(bytes) | runs::Said::BytesAndTicket(bytes) => {
+                let line = out_line(self.heap, bytes.as_slice())?;
+                self.add(line)
+            }
+            runs::Said::Fault(report) => self.print(Said::Fault { report: *report }),
         }
     }
-    Ok(())
-}
 
-// Does what a line asks for.
-fn respond<F: Flash>(
-    heap: Global,
-    part: &mut Running<F>,
-    line: &[u8],
-    text: &mut Vec<u8>,
-) -> Result<(), AllocError> {
-    match parse(heap, line)? {
-        Some(Form::In { bytes }) => receive(heap, part, bytes.as_slice(), text),
-        Some(Form::Work { calls }) => work(heap, part, calls, text),
-        Some(Form::Reset) => {
-            if part.reset() {
-                print(heap, text, Said::Reset)
-            } else {
-                print(heap, text, Said::NoTicket)
+    // Gives bytes to the part, one after the other.
+    fn receive(&mut self, bytes: &[u8]) -> Result<(), AllocError> {
+        for &byte in bytes {
+            let row = do_event(self.heap, &mut self.part, Event::Byte { byte, room: ROOM })?;
+            self.print_answer(&row.said)?;
+        }
+        Ok(())
+    }
+
+    // Calls work until there is an answer, at most so often, and prints the answer of the last call.
+    fn work(&mut self, calls: u32) -> Result<(), AllocError> {
+        for left in (0..calls).rev() {
+            let row = do_event(self.heap, &mut self.part, Event::Work { room: ROOM })?;
+            match row.said {
+                runs::Said::Resting | runs::Said::Ongoing if left > 0 => {}
+                said => return self.print_answer(&said),
             }
         }
-        Some(Form::Fault) => print(
-            heap,
-            text,
-            Said::Fault {
-                report: part.fault(),
-            },
-        ),
-        None => print(heap, text, Said::BadLine),
+        Ok(())
     }
-}
 
-// Answers line after line.
-fn serve<F: Flash>(rt: HostRuntime, part: &mut Running<F>) -> io::Result<()> {
-    let heap = rt.alloc();
-    let mut out = rt.stdout();
-    for line in BufReader::new(heap, rt.stdin())?.split(heap, b'\n') {
-        let mut text = Vec::new(heap);
-        respond(heap, part, line?.as_slice(), &mut text)?;
-        out.write_all(text.as_slice())?;
+    // Spends the ticket, if it is out, and prints whether it was.
+    fn reset(&mut self) -> Result<(), AllocError> {
+        if self.part.reset() {
+            self.print(Said::Reset)
+        } else {
+            self.print(Said::NoTicket)
+        }
     }
-    Ok(())
+
+    // Does what a line asks for.
+    fn respond(&mut self, line: &[u8]) -> Result<(), AllocError> {
+        match parse(self.heap, line)? {
+            Some(Form::In { bytes }) => self.receive(bytes.as_slice()),
+            Some(Form::Work { calls }) => self.work(calls),
+            Some(Form::Reset) => self.reset(),
+            Some(Form::Fault) => {
+                let report = self.part.fault();
+                self.print(Said::Fault { report })
+            }
+            None => self.print(Said::BadLine),
+        }
+    }
+
+    // Answers line after line.
+    fn serve(&mut self, rt: HostRuntime) -> io::Result<()> {
+        let mut out = rt.stdout();
+        for line in BufReader::new(self.heap, rt.stdin())?.split(self.heap, b'\n') {
+            self.respond(line?.as_slice())?;
+            out.write_all(self.text.as_slice())?;
+            self.text.clear();
+        }
+        Ok(())
+    }
 }
 
 fn main(rt: HostRuntime) -> io::Result<()> {
@@ -134,8 +120,17 @@ fn main(rt: HostRuntime) -> io::Result<()> {
         sram: 0,
     };
     let flash = WordFlash::new(&mut words, &mut records, [0xAA, 0, 0, 0], 3);
-    let mut part = Running::start(flash, identity);
-    let served = serve(rt, &mut part);
+    let mut bench = Bench {
+        heap: rt.alloc(),
+        part: Running::start(flash, identity),
+        text: Vec::new(rt.alloc()),
+    };
+    let served = bench.serve(rt);
+    let Bench {
+        heap: _,
+        part,
+        text: _,
+    } = bench;
     part.off().give_up();
     served
 }

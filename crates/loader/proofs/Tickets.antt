@@ -1,19 +1,10 @@
--- A byte brings no ticket and takes none, and a work call that answers with none takes none.
+-- A work call that answers with no ticket takes none.
 use Rattle.std.proofs.Common.{◌≡◌, ℕ, Bool, true, false, cond, ltb, None, refl, arith}
-use Rattle.part.specs.Events.{after_byte, after_portion, byte_leaves, hears, busy, least_buffer, next_portion, small_buffer, ticket_after, work_leaves, work_said, work_says}
+use Rattle.part.specs.Events.{after_portion, least_buffer, next_portion, small_buffer, ticket_after, work_leaves, work_said, work_says}
 use Rattle.part.specs.Parts.{Part}
-use Rattle.part.specs.Receiving.{Heard}
 use Rattle.part.specs.Working.{Outcome, idle, going, done, done_ticket, differs, refused, Portion}
 use Rattle.loader.specs.Answers.{ticket_of}
 use Rattle.loader.specs.Loaders.{unspent, worked_as}
-
-keeps : (c d : Bool) (p : Part) (h : Heard) → (cond c p (cond d p (after_byte p h))).ticket ≡ p.ticket
-keeps true d p h = refl
-keeps false true p h = refl
-keeps false false p h = refl
-
-pub byte_keeps_the_ticket : (p : Part) (b room : ℕ) → (byte_leaves p b room).ticket ≡ p.ticket
-byte_keeps_the_ticket p b room = keeps (ltb room least_buffer) (busy p) p (hears p b)
 
 without : (o : Outcome) (p : Part) → ticket_of (worked_as unspent (work_said o)) ≡ None → ticket_after o p.ticket ≡ p.ticket
 without idle p e = refl

@@ -1,16 +1,16 @@
-// A loader driven by bytes and work calls, with its answers as plain values. A ticket cannot be let go, so a test checks
+// Boards with a flash of their own, and a loader driven by bytes and work calls. A ticket cannot be let go, so a test checks
 // nothing before its loaders are off.
 use flash::Flash;
-use flash_kinds::PageRecord;
-use loader::{Loader, Received, Ticket, Worked, reset};
+use flash_kinds::{PageRecord, PairFlash, WordFlash};
+use loader::{Answer, Loader, Received, Ticket, reset, start};
 use part::Identity;
 
-pub(crate) const NEW: PageRecord = PageRecord {
+const NEW: PageRecord = PageRecord {
     made: 0,
     allowed: 3,
 };
 
-pub(crate) const IDENTITY: Identity = Identity {
+const IDENTITY: Identity = Identity {
     uid: [
         0x10, 0x11, 0x12, 0x13, 0x14, 0x15, 0x16, 0x17, 0x18, 0x19, 0x1A, 0x1B,
     ],
@@ -21,43 +21,83 @@ pub(crate) const IDENTITY: Identity = Identity {
 };
 
 // The option words of an open part.
-pub(crate) const OPEN: [u32; 4] = [0xAA, 0x0403_0201, 0x0807_0605, 0x0C0B_0A09];
+const OPEN: [u32; 4] = [0xAA, 0x0403_0201, 0x0807_0605, 0x0C0B_0A09];
 
-// What a call was answered with.
-#[derive(Clone, Copy, PartialEq, Eq, Debug)]
-pub(crate) enum Said {
-    Small,
-    Quiet,
-    Taken,
-    Idle,
-    Going,
-    Bytes(usize),
-    Ticket(usize),
+// A board with a word flash.
+#[derive(Drop)]
+pub(crate) struct Board<const WORDS: usize, const PAGES: usize> {
+    pub(crate) words: [u32; WORDS],
+    records: [PageRecord; PAGES],
+}
+
+impl<const WORDS: usize, const PAGES: usize> Board<WORDS, PAGES> {
+    // New tables, each word of which is that one.
+    pub(crate) fn filled(word: u32) -> Board<WORDS, PAGES> {
+        Board {
+            words: [word; WORDS],
+            records: [NEW; PAGES],
+        }
+    }
+
+    // A loader on the board's flash, with so many option writes left.
+    pub(crate) fn start(&mut self, option_writes: u32) -> Loader<WordFlash<'_>> {
+        start(
+            WordFlash::new(&mut self.words, &mut self.records, OPEN, option_writes),
+            IDENTITY,
+        )
+    }
+}
+
+// A board with a flash of two chips, 8 pages in all.
+#[derive(Drop)]
+pub(crate) struct PairBoard {
+    low: [u16; 1024],
+    high: [u16; 1024],
+    low_records: [PageRecord; 8],
+    high_records: [PageRecord; 8],
+}
+
+impl PairBoard {
+    // New tables, each half word of which is that one.
+    pub(crate) fn filled(low: u16, high: u16) -> PairBoard {
+        PairBoard {
+            low: [low; 1024],
+            high: [high; 1024],
+            low_records: [NEW; 8],
+            high_records: [NEW; 8],
+        }
+    }
+
+    // A loader on the board's flash, with 2 option writes left.
+    pub(crate) fn start(&mut self) -> Loader<PairFlash<'_>> {
+        let PairBoard {
+            low,
+            high,
+            low_records,
+            high_records,
+        } = self;
+        start(
+            PairFlash::new(low, high, low_records, high_records, OPEN, 2),
+            IDENTITY,
+        )
+    }
 }
 
 // The answer to the last of some bytes.
-pub(crate) fn send<F: Flash>(loader: &mut Loader<F>, bytes: &[u8], buffer: &mut [u8]) -> Said {
-    let mut said = Said::Quiet;
+pub(crate) fn send<F: Flash>(loader: &mut Loader<F>, bytes: &[u8], buffer: &mut [u8]) -> Received {
+    let mut received = Received::Quiet;
     for byte in bytes {
-        said = match loader.receive(*byte, buffer) {
-            Received::SmallBuffer => Said::Small,
-            Received::Quiet => Said::Quiet,
-            Received::TakenUp => Said::Taken,
-            Received::Bytes(count) => Said::Bytes(count),
-        };
+        received = loader.receive(*byte, buffer);
     }
-    said
+    received
 }
 
 // The answer to one work call.
-pub(crate) fn work<F: Flash>(loader: &mut Loader<F>, buffer: &mut [u8]) -> (Said, Option<Ticket>) {
-    match loader.work(buffer) {
-        Worked::SmallBuffer => (Said::Small, None),
-        Worked::Idle => (Said::Idle, None),
-        Worked::Going => (Said::Going, None),
-        Worked::Bytes(count) => (Said::Bytes(count), None),
-        Worked::BytesAndTicket(count, ticket) => (Said::Ticket(count), Some(ticket)),
-    }
+pub(crate) fn work<F: Flash>(
+    loader: &mut Loader<F>,
+    buffer: &mut [u8],
+) -> (Answer, Option<Ticket>) {
+    loader.work(buffer).split()
 }
 
 // Starts the loader again where there is a ticket.
@@ -73,7 +113,7 @@ pub(crate) fn serve<F: Flash>(
     loader: &mut Loader<F>,
     frame: &[u8],
     buffer: &mut [u8],
-) -> (Said, Option<Ticket>) {
+) -> (Answer, Option<Ticket>) {
     let _ = send(loader, frame, buffer);
     work(loader, buffer)
 }
@@ -83,12 +123,12 @@ pub(crate) fn work_on<F: Flash>(
     loader: &mut Loader<F>,
     times: u32,
     buffer: &mut [u8],
-) -> (Said, Option<Ticket>) {
-    let mut last = Said::Quiet;
+) -> (Answer, Option<Ticket>) {
+    let mut last = Answer::Idle;
     for _ in 0..times {
         match work(loader, buffer) {
-            (said, Some(ticket)) => return (said, Some(ticket)),
-            (said, None) => last = said,
+            (answer, Some(ticket)) => return (answer, Some(ticket)),
+            (answer, None) => last = answer,
         }
     }
     (last, None)

@@ -1,7 +1,6 @@
-use crate::driving::{IDENTITY, NEW, OPEN, Said, restart, send, serve, work, work_on};
+use crate::driving::{Board, PairBoard, restart, send, serve, work, work_on};
 use flash::{Asked, Cause, Flash, FlashFault};
-use flash_kinds::{PairFlash, WordFlash};
-use loader::{off, start};
+use loader::{Answer, Received, off};
 use std::test::Fail;
 
 const BLANK: u32 = 0xFFFF_FFFF;
@@ -26,13 +25,12 @@ const UNPROTECT: &[u8] = b"\x85\xA1\x00\x00";
 
 #[test]
 fn no_page_to_erase_or_read(rt: HostRuntime) {
-    let mut words = [BLANK; 4];
-    let mut records = [NEW; 4];
+    let mut board = Board::<4, 4>::filled(BLANK);
     let mut buffer = [0u8; 518];
     let mut page = [0u8; 518];
     let mut user = [0u8; 518];
     let mut options = [0u8; 518];
-    let mut loader = start(WordFlash::new(&mut words, &mut records, OPEN, 2), IDENTITY);
+    let mut loader = board.start(2);
     let greeted = send(&mut loader, b"\x5A", &mut buffer);
     let taken = send(&mut loader, ERASE_ALL, &mut buffer);
     let (erased, ticket) = work(&mut loader, &mut buffer);
@@ -47,14 +45,14 @@ fn no_page_to_erase_or_read(rt: HostRuntime) {
         &mut options,
     );
     let _ = off(loader, None);
-    assert_eq!(rt; greeted, Said::Bytes(1));
-    assert_eq!(rt; taken, Said::Taken);
-    assert_eq!(rt; erased, Said::Bytes(4));
+    assert_eq!(rt; greeted, Received::Bytes(1));
+    assert_eq!(rt; taken, Received::TakenUp);
+    assert_eq!(rt; erased, Answer::Bytes(4));
     assert!(rt; &buffer[0..4] == DONE);
-    assert_eq!(rt; idle, Said::Idle);
+    assert_eq!(rt; idle, Answer::Idle);
     assert!(rt; &page[0..4] == b"\xB3\x6A\x00\x00".as_slice());
     assert!(rt; &user[0..4] == b"\xB3\x6A\x00\x00".as_slice());
-    assert_eq!(rt; shown, Said::Bytes(22));
+    assert_eq!(rt; shown, Received::Bytes(22));
     assert!(rt;
         &options[0..22]
             == b"\xB3\x90\x00\x10\xAA\x00\x00\x00\x01\x02\x03\x04\x05\x06\x07\x08\x09\x0A\x0B\x0C\xCC\x33".as_slice()
@@ -63,12 +61,11 @@ fn no_page_to_erase_or_read(rt: HostRuntime) {
 
 #[test]
 fn no_page_opens_at_once(rt: HostRuntime) {
-    let mut words = [BLANK; 4];
-    let mut records = [NEW; 4];
+    let mut board = Board::<4, 4>::filled(BLANK);
     let mut buffer = [0u8; 518];
     let mut locked = [0u8; 518];
     let mut opened = [0u8; 518];
-    let mut loader = start(WordFlash::new(&mut words, &mut records, OPEN, 2), IDENTITY);
+    let mut loader = board.start(2);
     let _ = send(&mut loader, b"\x5A", &mut buffer);
     let (protected, ticket) = serve(&mut loader, PROTECT, &mut buffer);
     let mut loader = restart(loader, ticket);
@@ -79,9 +76,9 @@ fn no_page_opens_at_once(rt: HostRuntime) {
     let _ = send(&mut loader, b"\x5A", &mut opened);
     let _ = send(&mut loader, GET_LEVEL, &mut opened);
     let flash = off(loader, None);
-    assert_eq!(rt; protected, Said::Ticket(4));
+    assert_eq!(rt; protected, Answer::BytesAndTicket(4, ()));
     assert!(rt; &locked[0..7] == b"\xB3\x90\x00\x01\x01\xE1\xF1".as_slice());
-    assert_eq!(rt; unprotected, Said::Ticket(4));
+    assert_eq!(rt; unprotected, Answer::BytesAndTicket(4, ()));
     assert!(rt; &buffer[0..4] == DONE);
     assert!(rt; &opened[0..7] == b"\xB3\x90\x00\x01\x00\xF0\x78".as_slice());
     assert_eq!(rt; flash.option_word(0), Ok(0xAA));
@@ -91,25 +88,12 @@ fn no_page_opens_at_once(rt: HostRuntime) {
 
 #[test]
 fn two_chips_written_and_erased(rt: HostRuntime) -> Result<(), Fail> {
-    let mut low = [0xFFFFu16; 1024];
-    let mut high = [0xFFFFu16; 1024];
-    let mut low_records = [NEW; 8];
-    let mut high_records = [NEW; 8];
+    let mut board = PairBoard::filled(0xFFFF, 0xFFFF);
     let mut buffer = [0u8; 518];
     let mut full = [0u8; 518];
     let mut refusal = [0u8; 518];
     let mut blank = [0u8; 518];
-    let mut loader = start(
-        PairFlash::new(
-            &mut low,
-            &mut high,
-            &mut low_records,
-            &mut high_records,
-            OPEN,
-            2,
-        ),
-        IDENTITY,
-    );
+    let mut loader = board.start();
     let _ = send(&mut loader, b"\x5A", &mut buffer);
     let (written, ticket) = serve(&mut loader, WRITE, &mut buffer);
     let mut loader = restart(loader, ticket);
@@ -121,11 +105,11 @@ fn two_chips_written_and_erased(rt: HostRuntime) -> Result<(), Fail> {
     let mut loader = restart(loader, ticket);
     let _ = send(&mut loader, READ_4, &mut blank);
     let flash = off(loader, None);
-    assert_eq!(rt; written, Said::Bytes(4));
+    assert_eq!(rt; written, Answer::Bytes(4));
     assert!(rt; &full[0..10] == b"\xB3\x90\x00\x04\x11\x22\x33\x44\x0D\xAD".as_slice());
-    assert_eq!(rt; again, Said::Bytes(4));
+    assert_eq!(rt; again, Answer::Bytes(4));
     assert!(rt; &refusal[0..4] == b"\xB3\x65\x00\x00".as_slice());
-    assert_eq!(rt; erased, Said::Bytes(4));
+    assert_eq!(rt; erased, Answer::Bytes(4));
     assert!(rt; &buffer[0..4] == DONE);
     assert!(rt; &blank[0..10] == b"\xB3\x90\x00\x04\xFF\xFF\xFF\xFF\x0F\x47".as_slice());
     assert_eq!(rt; flash.erases_left(0), Ok(2));
@@ -148,24 +132,11 @@ fn two_chips_written_and_erased(rt: HostRuntime) -> Result<(), Fail> {
 
 #[test]
 fn two_chips_locked_and_opened(rt: HostRuntime) {
-    let mut low = [0x1122u16; 1024];
-    let mut high = [0x3344u16; 1024];
-    let mut low_records = [NEW; 8];
-    let mut high_records = [NEW; 8];
+    let mut board = PairBoard::filled(0x1122, 0x3344);
     let mut buffer = [0u8; 518];
     let mut locked = [0u8; 518];
     let mut blank = [0u8; 518];
-    let mut loader = start(
-        PairFlash::new(
-            &mut low,
-            &mut high,
-            &mut low_records,
-            &mut high_records,
-            OPEN,
-            2,
-        ),
-        IDENTITY,
-    );
+    let mut loader = board.start();
     let _ = send(&mut loader, b"\x5A", &mut buffer);
     let (protected, ticket) = serve(&mut loader, PROTECT, &mut buffer);
     let mut loader = restart(loader, ticket);
@@ -179,22 +150,21 @@ fn two_chips_locked_and_opened(rt: HostRuntime) {
     let _ = send(&mut loader, b"\x5A", &mut blank);
     let _ = send(&mut loader, READ_4, &mut blank);
     let flash = off(loader, None);
-    assert_eq!(rt; protected, Said::Ticket(4));
+    assert_eq!(rt; protected, Answer::BytesAndTicket(4, ()));
     assert!(rt; &locked[0..4] == b"\xB3\x63\x00\x00".as_slice());
-    assert_eq!(rt; taken, Said::Taken);
-    assert_eq!(rt; eighth, Said::Going);
-    assert_eq!(rt; ninth, Said::Ticket(4));
+    assert_eq!(rt; taken, Received::TakenUp);
+    assert_eq!(rt; eighth, Answer::Going);
+    assert_eq!(rt; ninth, Answer::BytesAndTicket(4, ()));
     assert!(rt; &blank[0..10] == b"\xB3\x90\x00\x04\xFF\xFF\xFF\xFF\x0F\x47".as_slice());
     assert_eq!(rt; flash.word(1023), Ok(BLANK));
 }
 
 #[test]
 fn a_small_buffer_takes_no_byte(rt: HostRuntime) {
-    let mut words = [BLANK; 1024];
-    let mut records = [NEW; 8];
+    let mut board = Board::<1024, 8>::filled(BLANK);
     let mut small = [0xEEu8; 517];
     let mut buffer = [0xEEu8; 518];
-    let mut loader = start(WordFlash::new(&mut words, &mut records, OPEN, 2), IDENTITY);
+    let mut loader = board.start(2);
     let refused = send(&mut loader, b"\x5A", &mut small);
     let deaf = send(&mut loader, READ_512, &mut buffer);
     let greeted = send(&mut loader, b"\x5A", &mut buffer);
@@ -206,13 +176,13 @@ fn a_small_buffer_takes_no_byte(rt: HostRuntime) {
     let last = send(&mut loader, b"\x67", &mut small);
     let shown = send(&mut loader, b"\x67", &mut buffer);
     let _ = off(loader, None);
-    assert_eq!(rt; refused, Said::Small);
-    assert_eq!(rt; deaf, Said::Quiet);
-    assert_eq!(rt; greeted, Said::Bytes(1));
-    assert_eq!(rt; open, Said::Quiet);
-    assert_eq!(rt; last, Said::Small);
+    assert_eq!(rt; refused, Received::SmallBuffer);
+    assert_eq!(rt; deaf, Received::Quiet);
+    assert_eq!(rt; greeted, Received::Bytes(1));
+    assert_eq!(rt; open, Received::Quiet);
+    assert_eq!(rt; last, Received::SmallBuffer);
     assert!(rt; &small[0..517] == [0xEE; 517].as_slice());
-    assert_eq!(rt; shown, Said::Bytes(518));
+    assert_eq!(rt; shown, Received::Bytes(518));
     assert!(rt; &buffer[0..4] == b"\xB3\x90\x02\x00".as_slice());
     assert!(rt; &buffer[4..516] == [0xFF; 512].as_slice());
     assert!(rt; &buffer[516..518] == b"\x56\x69".as_slice());
@@ -220,21 +190,20 @@ fn a_small_buffer_takes_no_byte(rt: HostRuntime) {
 
 #[test]
 fn a_small_buffer_does_no_work(rt: HostRuntime) {
-    let mut words = [0u32; 1024];
-    let mut records = [NEW; 8];
+    let mut board = Board::<1024, 8>::filled(0u32);
     let mut small = [0xEEu8; 517];
     let mut buffer = [0xEEu8; 600];
-    let mut loader = start(WordFlash::new(&mut words, &mut records, OPEN, 2), IDENTITY);
+    let mut loader = board.start(2);
     let _ = send(&mut loader, b"\x5A", &mut buffer);
     let taken = send(&mut loader, ERASE_PAGE_0, &mut buffer);
     let (refused, ticket) = work(&mut loader, &mut small);
     let mut loader = restart(loader, ticket);
     let (erased, ticket) = work(&mut loader, &mut buffer);
     let flash = off(loader, ticket);
-    assert_eq!(rt; taken, Said::Taken);
-    assert_eq!(rt; refused, Said::Small);
+    assert_eq!(rt; taken, Received::TakenUp);
+    assert_eq!(rt; refused, Answer::SmallBuffer);
     assert!(rt; &small[0..517] == [0xEE; 517].as_slice());
-    assert_eq!(rt; erased, Said::Bytes(4));
+    assert_eq!(rt; erased, Answer::Bytes(4));
     assert!(rt; &buffer[0..4] == DONE);
     assert!(rt; &buffer[4..600] == [0xEE; 596].as_slice());
     assert_eq!(rt; flash.erases_left(0), Ok(2));
@@ -244,17 +213,12 @@ fn a_small_buffer_does_no_work(rt: HostRuntime) {
 
 #[test]
 fn a_ticket_of_another_part(rt: HostRuntime) {
-    let mut words = [BLANK; 4];
-    let mut records = [NEW; 4];
-    let mut other_words = [BLANK; 4];
-    let mut other_records = [NEW; 4];
+    let mut board = Board::<4, 4>::filled(BLANK);
+    let mut other_board = Board::<4, 4>::filled(BLANK);
     let mut buffer = [0u8; 518];
     let mut level = [0u8; 518];
-    let mut this = start(WordFlash::new(&mut words, &mut records, OPEN, 1), IDENTITY);
-    let mut other = start(
-        WordFlash::new(&mut other_words, &mut other_records, OPEN, 1),
-        IDENTITY,
-    );
+    let mut this = board.start(1);
+    let mut other = other_board.start(1);
     let _ = send(&mut this, b"\x5A\x85\xA0\x00\x00", &mut buffer);
     let _ = send(&mut other, b"\x5A\x85\xA0\x00\x00", &mut buffer);
     let (said, ticket) = work(&mut this, &mut buffer);
@@ -269,53 +233,51 @@ fn a_ticket_of_another_part(rt: HostRuntime) {
     let again = send(&mut other, b"\x5A", &mut buffer);
     let _ = off(this, None);
     let _ = off(other, None);
-    assert_eq!(rt; said, Said::Ticket(4));
-    assert_eq!(rt; other_said, Said::Ticket(4));
-    assert_eq!(rt; heard, Said::Bytes(1));
+    assert_eq!(rt; said, Answer::BytesAndTicket(4, ()));
+    assert_eq!(rt; other_said, Answer::BytesAndTicket(4, ()));
+    assert_eq!(rt; heard, Received::Bytes(1));
     assert!(rt; &level[0..7] == b"\xB3\x90\x00\x01\x01\xE1\xF1".as_slice());
-    assert_eq!(rt; deaf, Said::Quiet);
-    assert_eq!(rt; idle, Said::Idle);
-    assert_eq!(rt; again, Said::Bytes(1));
+    assert_eq!(rt; deaf, Received::Quiet);
+    assert_eq!(rt; idle, Answer::Idle);
+    assert_eq!(rt; again, Received::Bytes(1));
 }
 
 #[test]
 fn off_gives_back_the_flash(rt: HostRuntime) {
-    let mut words = [BLANK; 1024];
-    let mut records = [NEW; 8];
+    let mut board = Board::<1024, 8>::filled(BLANK);
     let mut buffer = [0u8; 518];
-    let mut loader = start(WordFlash::new(&mut words, &mut records, OPEN, 1), IDENTITY);
+    let mut loader = board.start(1);
     let _ = send(&mut loader, b"\x5A", &mut buffer);
     let (written, ticket) = serve(&mut loader, WRITE, &mut buffer);
     let mut loader = restart(loader, ticket);
     let _ = send(&mut loader, PROTECT, &mut buffer);
     let (protected, ticket) = work(&mut loader, &mut buffer);
     let flash = off(loader, ticket);
-    assert_eq!(rt; written, Said::Bytes(4));
-    assert_eq!(rt; protected, Said::Ticket(4));
+    assert_eq!(rt; written, Answer::Bytes(4));
+    assert_eq!(rt; protected, Answer::BytesAndTicket(4, ()));
     assert_eq!(rt; flash.word(0), Ok(0x4433_2211));
     assert_eq!(rt; flash.word(1), Ok(BLANK));
     assert_eq!(rt; flash.option_word(0), Ok(0));
     assert_eq!(rt; flash.option_word(1), Ok(0x0403_0201));
     flash.give_up();
-    assert_eq!(rt; words[0], 0x4433_2211);
+    assert_eq!(rt; board.words[0], 0x4433_2211);
 }
 
 #[test]
 fn what_get_tells(rt: HostRuntime) {
-    let mut words = [BLANK; 1024];
-    let mut records = [NEW; 8];
+    let mut board = Board::<1024, 8>::filled(BLANK);
     let mut buffer = [0xEEu8; 600];
     let mut uid = [0u8; 518];
     let mut version = [0u8; 518];
     let mut device = [0u8; 518];
-    let mut loader = start(WordFlash::new(&mut words, &mut records, OPEN, 1), IDENTITY);
+    let mut loader = board.start(1);
     let _ = send(&mut loader, b"\x5A", &mut buffer);
     let told = send(&mut loader, b"\x85\x01\x00\x01\x00\xF0\x78", &mut buffer);
     let _ = send(&mut loader, b"\x85\x01\x00\x01\x01\xE1\xF1", &mut uid);
     let _ = send(&mut loader, b"\x85\x01\x00\x01\x03\xC2\xE3", &mut version);
     let _ = send(&mut loader, b"\x85\x01\x00\x01\x04\xB6\x5C", &mut device);
     let _ = off(loader, None);
-    assert_eq!(rt; told, Said::Bytes(16));
+    assert_eq!(rt; told, Received::Bytes(16));
     assert!(rt;
         &buffer[0..16]
             == b"\xB3\x90\x00\x0A\x5A\x01\xF1\xF2\xF3\xF4\xA0\xA1\x00\x00\x77\x5B".as_slice()

@@ -2,14 +2,12 @@
 use Rattle.std.proofs.Common.{◌≡◌, ℕ, Bool, true, false, cond, ltb, List, length, drop, refl, ap, ◌∙◌, ap₂}
 use Rattle.std.proofs.lemmas.List.{take_at}
 use Rattle.frame.specs.Layout.{headed}
-use Rattle.part.specs.Events.{small_buffer, silent, bytes, byte_said, byte_says, work_said, work_says, least_buffer, busy, hears, next_portion}
+use Rattle.part.specs.Events.{small_buffer, silent, bytes, byte_said, byte_says, least_buffer, busy, hears}
 use Rattle.part.specs.Parts.{Part}
 use Rattle.part.specs.Receiving.{Reply, quiet, taken_up, replied}
-use Rattle.part.specs.Working.{Outcome, idle, going, done, done_ticket, differs, refused}
 use Rattle.loader.specs.declared.answers.Received.{Received}
-use Rattle.loader.specs.declared.answers.Worked.{Worked}
-use Rattle.loader.specs.Loaders.{received_as, said_bytes, worked_as}
-use Rattle.runs.specs.Lists.{byte_answer, work_answer}
+use Rattle.loader.specs.Loaders.{received_as, said_bytes}
+use Rattle.runs.specs.Lists.{byte_answer}
 
 byte_tells : (c d : Bool) (r : Reply) (old : List ℕ)
     → byte_answer (received_as (cond c small_buffer (cond d silent (byte_said r)))) (headed (said_bytes (cond c small_buffer (cond d silent (byte_said r)))) old)
@@ -23,18 +21,3 @@ byte_tells false false (replied bs) old = ap bytes (take_at bs (drop (length bs)
 pub byte_told : (p : Part) (b room : ℕ) (r : Received) (buffer old : List ℕ) → r ≡ received_as (byte_says p b room) → buffer ≡ headed (said_bytes (byte_says p b room)) old
     → byte_answer r buffer ≡ byte_says p b room
 byte_told p b room r buffer old e f = ap₂ byte_answer e f ∙ byte_tells (ltb room least_buffer) (busy p) (hears p b).reply old
-
-module _ {T : Type 0} (ticket : T) where
-  work_tells : (c : Bool) (o : Outcome) (old : List ℕ)
-      → work_answer (worked_as ticket (cond c small_buffer (work_said o))) (headed (said_bytes (cond c small_buffer (work_said o))) old) ≡ cond c small_buffer (work_said o)
-  work_tells true o old = refl
-  work_tells false idle old = refl
-  work_tells false going old = refl
-  work_tells false done old = refl
-  work_tells false done_ticket old = refl
-  work_tells false differs old = refl
-  work_tells false (refused f) old = refl
-
-  pub work_told : (p : Part) (room : ℕ) (r : Worked T) (buffer old : List ℕ) → r ≡ worked_as ticket (work_says p room) → buffer ≡ headed (said_bytes (work_says p room)) old
-      → work_answer r buffer ≡ work_says p room
-  work_told p room r buffer old e f = ap₂ work_answer e f ∙ work_tells (ltb room least_buffer) (next_portion p).outcome old

@@ -67,6 +67,7 @@ fn work<F: Flash>(heap: Global, part: &mut Running<F>, room: usize) -> Result<Sa
 }
 
 // The answer to one event.
+#[tactic(auto, unfolding(part::specs::Events::says, part::specs::Events::step))]
 fn respond<F: Flash>(heap: Global, part: &mut Running<F>, event: Event) -> Result<Said, AllocError>
     ensures { IfOk result (λ s. (said_of s ≡ says (part_running F.meaning part.old) (event_of event)) × (part_running F.meaning part.new ≡ step (part_running F.meaning part.old) (event_of event))) }
 {

@@ -1,5 +1,4 @@
 mod Alike
 mod Bounded
 mod Hands
-mod Same
 mod Wear

@@ -1,7 +1,6 @@
 use Rattle.std.proofs.Common.{◌≡◌, ℕ, length, sym, ap, ◌∙◌, arith, rules}
 use Rattle.twin_parts.specs.Hands.{data_in}
-use Rattle.twin_parts.proofs.Bounded.{equal_decides}
-use Rattle.twin_parts.proofs.Same.{bounded_decides}
+use Rattle.twin_parts.proofs.Bounded.{bounded_decides, equal_decides}
 use Rattle.twin_parts.proofs.Hands.{Agreed, same_task, same_data, alike}
 use Rattle.twin_parts.proofs.receivers.same_reception.Goals as goal
 use Rattle.twin_parts.proofs.receivers.same_reception.Goals.{then-connected, else-connected, then-eq, else-eq}

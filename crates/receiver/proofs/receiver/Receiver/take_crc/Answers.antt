@@ -1,56 +1,33 @@
-use Rattle.std.proofs.Common.{◌≡◌, ℕ, ◌≤◌, length, refl, ◌∙◌, arith}
+use Rattle.std.proofs.Common.{refl, arith}
 use Rattle.std.proofs.lemmas.Bool.Decides.{nat_tests}
+use Rattle.receiver.specs.declared.state.State.TheVariants.{Crc}
 use Rattle.receiver.specs.Stores.{held}
-use Rattle.receiver.proofs.Frames.{in_crc, to_crc, length_more, field_more, heard_open, heard_whole, waits, crc_wire, free}
+use Rattle.receiver.proofs.Frames.{in_crc, to_crc, more, stays_open, is_whole}
 use Rattle.receiver.proofs.receiver.Receiver.take_crc.Goals as goal
 
 pub length_field-requires : goal.length_field-requires
 length_field-requires c =
-    let k = in_crc c.args.self.now.state (held c.args.self.now.store) c.requires c.args.self.now.kept in
-    omega (arith, length_more _ _ _ c.push.ensures)
+    let k = in_crc c.args.self.now c.requires in
+    let l = more _ _ c.args.byte c.push.ensures in
+    omega arith
 
 pub invariant_of-self : goal.invariant_of-self
 invariant_of-self c =
-    let f = held c.args.self.now.store in
-    let g = held c.push.new.self in
-    let k = in_crc c.args.self.now.state f c.requires c.args.self.now.kept in
-    let l = length_more f g c.args.byte c.push.ensures in
-    let h : 4 ≤ length f = omega arith in
-    let d = field_more f g c.args.byte c.push.ensures h in
-    let n = c.count.ensures.is_the_number_of_bytes in
-    record { kept = to_crc c.args.self.now.state g c.requires (record { some = omega (arith, d); most = omega (arith, d); from = omega arith; to = omega arith }) }
+    let k = in_crc c.args.self.now c.requires in
+    let l = more _ _ c.args.byte c.push.ensures in
+    let d = l.field (omega arith) in
+    record { kept = to_crc c.args.self.now.state (held c.push.new.self) c.requires (record { some = omega (arith, d); most = omega (arith, d); from = omega arith; to = omega arith }) }
 
 pub returns-then-count-length_field : goal.returns-then-count-length_field
 returns-then-count-length_field c =
-    let s = c.args.self.now.state in
-    let f = held c.args.self.now.store in
-    let g = held c.push.new.self in
-    let k = in_crc s f c.requires c.args.self.now.kept in
-    let l = length_more f g c.args.byte c.push.ensures in
-    let h : 4 ≤ length f = omega arith in
-    let d = field_more f g c.args.byte c.push.ensures h in
-    let n = c.count.ensures.is_the_number_of_bytes in
-    record {
-      hears = λ i level m.
-          heard_open i level m s f g c.args.byte (crc_wire s f c.requires) (omega arith) c.push.ensures (omega arith) (omega (arith, d)) (λ e. grind (arith, nat_tests))
-          ∙ waits s g (crc_wire s g c.requires);
-      free = free s _ c.requires refl;
-      after = λ e. let z : ◌≡◌ {A = ℕ} 0 1 = cc in absurd (omega arith);
-    }
+    let k = in_crc c.args.self.now c.requires in
+    let l = more _ _ c.args.byte c.push.ensures in
+    let d = l.field (omega arith) in
+    stays_open c.args.self.now _ c.args.byte Crc c.requires refl (omega arith) c.push.ensures Crc c.requires refl refl (omega arith) (omega (arith, d)) (λ e. grind (arith, nat_tests))
 
 pub returns : goal.returns
 returns c =
-    let s = c.args.self.now.state in
-    let f = held c.args.self.now.store in
-    let g = held c.push.new.self in
-    let k = in_crc s f c.requires c.args.self.now.kept in
-    let l = length_more f g c.args.byte c.push.ensures in
-    let h : 4 ≤ length f = omega arith in
-    let d = field_more f g c.args.byte c.push.ensures h in
-    let n = c.count.ensures.is_the_number_of_bytes in
-    record {
-      hears = λ i level m.
-          heard_whole i level m s f g c.args.byte (crc_wire s f c.requires) (omega arith) c.push.ensures (omega arith) (omega (arith, d)) (grind (arith, nat_tests));
-      free = refl;
-      after = λ e. refl;
-    }
+    let k = in_crc c.args.self.now c.requires in
+    let l = more _ _ c.args.byte c.push.ensures in
+    let d = l.field (omega arith) in
+    is_whole c.args.self.now _ c.args.byte Crc c.requires refl (omega arith) c.push.ensures refl (omega arith) (omega (arith, d)) (grind (arith, nat_tests))
