@@ -25,7 +25,7 @@ pub trait Hexadecimal: Drop {
 }
 
 // The number that a digit stands for.
-fn digit_of(c: u8) -> Option<u8>
+fn digit(c: u8) -> Option<u8>
     ensures { result ≡ digit_in c }
 {
     match c {
@@ -36,7 +36,7 @@ fn digit_of(c: u8) -> Option<u8>
 }
 
 // The digit of a number below 16.
-fn digit(number: u8) -> u8
+fn hex_digit(number: u8) -> u8
     requires { number < 16 }
     ensures { result ≡ hex_digit number }
 {
@@ -66,14 +66,14 @@ impl Hexadecimal for u8 {
         let [high, low] = word else {
             return None;
         };
-        let (high, low) = (digit_of(*high)?, digit_of(*low)?);
+        let (high, low) = (digit(*high)?, digit(*low)?);
         Some(high * 16 + low)
     }
 
     fn write(self, text: &mut Vec<u8>) -> Result<(), AllocError> {
         let (high, low) = (self / 16, self % 16);
-        text.push(digit(high))?;
-        text.push(digit(low))?;
+        text.push(hex_digit(high))?;
+        text.push(hex_digit(low))?;
         Ok(())
     }
 }

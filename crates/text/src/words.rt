@@ -1,5 +1,6 @@
 // The words of a line, one after the other.
 ghost use Rattle.std.specs.Prelude.{◌≡◌, ◌≤◌, IfSome, IfOk, Some, vec_items};
+ghost use Rattle.std.specs.Iterator.{YieldsFirstRef, item_count};
 ghost use Rattle.std.specs.Option.{option_map};
 ghost use Rattle.text.specs.Cursor.{left};
 ghost use Rattle.text.specs.Digits.{byte_in, number_up_to};
@@ -17,6 +18,25 @@ pub struct Words<'a> {
     rest: Option<&'a [u8]>,
 }
 
+impl<'a> Iterator for Words<'a> {
+    type Item = &'a [u8];
+
+    ghost next_gives = { YieldsFirstRef left };
+
+    ghost remaining = { item_count left };
+
+    // The next word.
+    fn next(&mut self) -> Option<&'a [u8]> {
+        let text = self.rest?;
+        let Some(end) = text.iter().position(|c| *c == b' ') else {
+            self.rest = None;
+            return Some(text);
+        };
+        self.rest = Some(&text[end + 1..]);
+        Some(&text[..end])
+    }
+}
+
 impl<'a> Words<'a> {
     // The words between `(` and `)`, where the line begins and ends so.
     pub fn of(line: &'a [u8]) -> Option<Words<'a>>
@@ -26,20 +46,6 @@ impl<'a> Words<'a> {
             [b'(', inside @ .., b')'] => Some(Words { rest: Some(inside) }),
             _ => None,
         }
-    }
-
-    // The next word.
-    pub fn word(&mut self) -> Option<&'a [u8]>
-        ensures is_the_first_word_left { option_map (λ x. x.now) result ≡ first_by Some (left self.old) }
-        ensures leaves_the_words_behind_it { left self.new ≡ behind (left self.old) }
-    {
-        let text = self.rest?;
-        let Some(end) = text.iter().position(|c| *c == b' ') else {
-            self.rest = None;
-            return Some(text);
-        };
-        self.rest = Some(&text[end + 1..]);
-        Some(&text[..end])
     }
 
     // Whether no word is left.
@@ -61,7 +67,7 @@ impl<'a> Words<'a> {
         ensures is_the_first_word_as_a_verb { result ≡ first_by (among V.spelled V.every) (left self.old) }
         ensures leaves_the_words_behind_it { left self.new ≡ behind (left self.old) }
     {
-        verb_of(self.word()?)
+        verb_of(self.next()?)
     }
 
     // The next word as a hexadecimal number, of as many digits as its type has room for.
@@ -69,7 +75,7 @@ impl<'a> Words<'a> {
         ensures is_the_first_word_as_digits { result ≡ first_by H.number_in (left self.old) }
         ensures leaves_the_words_behind_it { left self.new ≡ behind (left self.old) }
     {
-        H::read(self.word()?)
+        H::read(self.next()?)
     }
 
     // The next word as a decimal number that is at most so much.
@@ -78,15 +84,15 @@ impl<'a> Words<'a> {
         ensures is_at_most_so_much { IfSome result (λ n. n ≤ most) }
         ensures leaves_the_words_behind_it { left self.new ≡ behind (left self.old) }
     {
-        decimal::number(self.word()?).filter(|number| *number <= most)
+        decimal::number(self.next()?).filter(|number| *number <= most)
     }
 
     // All the words that are left, each as a number of two hexadecimal digits.
-    pub fn bytes(mut self, heap: Global) -> Result<Option<Vec<u8>>, AllocError>
+    pub fn bytes(self, heap: Global) -> Result<Option<Vec<u8>>, AllocError>
         ensures is_every_word_left_as_two_digits { IfOk result (λ o. option_map vec_items o ≡ all_by byte_in (left self.entry)) }
     {
         let mut bytes = Vec::new(heap);
-        while let Some(word) = self.word() {
+        for word in self {
             let Some(byte) = u8::read(word) else {
                 return Ok(None);
             };
