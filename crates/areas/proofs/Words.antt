@@ -1,6 +1,6 @@
 -- Words as bytes, and stretches of words.
-use Rattle.std.proofs.Common.{◌≡◌, ℕ, ◌+◌, ◌*◌, ◌<◌, ◌≤◌, List, [], ◌∷◌, ◌++◌, length, get_or, take, drop, sym, refl, ap, ◌∙◌, arith}
-use Rattle.std.proofs.lemmas.List.{append_assoc, append-nil, length-append, length-drop, get_or-drop, take_more, take_all}
+use Rattle.std.proofs.Common.{◌≡◌, ℕ, ◌+◌, ◌*◌, ◌<◌, List, [], ◌∷◌, ◌++◌, length, get_or, take, drop, sym, refl, ap, ◌∙◌, arith}
+use Rattle.std.proofs.lemmas.List.{append_assoc, append-nil, length-append, length-drop, get_or-drop, take_more}
 use Rattle.areas.specs.Words.{bytes_of_word, bytes_of_words}
 
 pub bytes_append : (a b : List ℕ) → bytes_of_words (a ++ b) ≡ bytes_of_words a ++ bytes_of_words b
@@ -19,7 +19,3 @@ pub stretch_more : (xs : List ℕ) (first i : ℕ) → first + i < length xs →
 stretch_more xs first i h =
     take_more (drop first xs) i 0 (omega (arith, length-drop first xs))
     ∙ ap (λ (x : ℕ). take i (drop first xs) ++ x ∷ []) (get_or-drop first xs i 0)
-
-pub stretch_end : (xs : List ℕ) (first i n : ℕ) → length xs ≤ first + i → i ≤ n → take i (drop first xs) ≡ take n (drop first xs)
-stretch_end xs first i n h l =
-    take_all i (drop first xs) (omega (arith, length-drop first xs)) ∙ sym (take_all n (drop first xs) (omega (arith, length-drop first xs)))

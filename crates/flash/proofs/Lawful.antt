@@ -7,7 +7,7 @@ use Rattle.flash.specs.Words.{length_as_words, as_words_fit, get_or_as_words}
 use Rattle.flash.specs.Meaning.{Meaning, Sound, blank, blank_page, page_written, with_word, with_page, with_erase_taken, with_options, with_option_write_taken}
 use Rattle.flash.specs.Effects.{Write, no_write, program_word, erase_page, set_options, written, word_answer, option_word_answer, program_answer, program_leaves, erase_answer, erase_leaves, options_answer, options_leaves}
 use Rattle.flash.specs.Cuts.{old, new, junk, cut_written}
-use Rattle.flash.specs.Laws.{AltersOnly, CutsAlterOnlyTheirWrite, CutsKeepLimits, RefusalsWriteNothing, WritesAreReadBack}
+use Rattle.flash.specs.Laws.{AltersOnly, CutsAlterOnlyTheirWrite, CutsKeepLimits, WritesAreReadBack}
 use Rattle.flash.proofs.Overwrites.{length_overwritten, get_or_overwritten_in, get_or_overwritten_out}
 
 -- the words with a page written
@@ -181,13 +181,6 @@ cuts_alter_only_their_write (junk us os true) (erase_page p) m = alters_erased p
 cuts_alter_only_their_write (junk us os false) (erase_page p) m = alters_page p us m
 cuts_alter_only_their_write (junk us os true) (set_options ws) m = alters_options ws m _ refl refl refl
 cuts_alter_only_their_write (junk us os false) (set_options ws) m = alters_options ws m _ refl refl refl
-
-pub refusals_write_nothing : RefusalsWriteNothing
-refusals_write_nothing = record {
-  program = λ m i v f e. grind (arith, nat_tests);
-  erase = λ m p f e. grind (arith, nat_tests);
-  options = λ m os f e. grind (arith, nat_tests);
-}
 
 -- what is read back
 word_read : (m : Meaning) (i r : ℕ) → i < 128 * m.pages → r ≡ get_or m.words i 0 → Ok r ≡ word_answer m i

@@ -1,5 +1,5 @@
 -- What a change of the tables does to their meaning.
-use Rattle.std.proofs.Common.{◌≡◌, ℕ, ◌+◌, ◌-◌, ◌*◌, ◌%◌, ◌^◌, ◌<◌, ◌≤◌, List, [], ◌∷◌, map, length, get_or, take, drop, set, replicate, sym, refl, ap, ◌∙◌, mod-eq_of_lt, arith}
+use Rattle.std.proofs.Common.{◌≡◌, ℕ, ◌+◌, ◌-◌, ◌*◌, ◌%◌, ◌^◌, ◌<◌, ◌≤◌, List, [], ◌∷◌, map, length, get_or, take, set, replicate, sym, refl, ap, ◌∙◌, mod-eq_of_lt, arith}
 use Rattle.std.proofs.Math.ListN.{get_or-map}
 use Rattle.std.proofs.Math.Seq.{take-set-lt, map-set_same}
 use Rattle.std.proofs.lemmas.List.{get_or-take, map-set, drop-set-lt}
@@ -55,14 +55,6 @@ module _ (pages pages' : ℕ) (words words' lefts lefts' options : List ℕ) (wr
       let left = take-set-lt pages lefts p _ h ∙ ap (λ x. set (take pages lefts) p (x - 1)) (sym (get_or-take pages lefts p 0 h)) in
       (λ j. tables_meaning (ps j) (ws j) (ls j) options writes)
       ∙ same_meaning _ _ refl (as_words_overwritten (128 * p) (replicate 128 blank) (128 * pages) words l) refl left refl
-
--- what is outside of the meaning stays when a cell of a page is set, and when a page is erased
-pub outside_set : (pages pages' : ℕ) (cells cells' : List ℕ) (records : List PageRecord) (i v : ℕ) → pages' ≡ pages →
-    cells' ≡ set cells i v → i < 128 * pages → outside_of pages' cells' records ≡ outside_of pages cells records
-outside_set pages pages' cells cells' records i v ps cs h =
-    (λ j. outside_of (ps j) (cs j) records)
-    ∙ ap (λ rest. rest ∷ map (λ r. r.allowed) records ∷ map (λ r. r.made + left_of r) records ∷ map (λ r. r.made) (drop pages records) ∷ [])
-    (drop-set-lt (128 * pages) cells i v h)
 
 pub outside_erased : (blank pages pages' : ℕ) (cells cells' : List ℕ) (records records' : List PageRecord) (p : ℕ) →
     pages' ≡ pages → cells' ≡ overwritten (128 * p) (replicate 128 blank) cells →
