@@ -3,6 +3,7 @@
 
 mod answer_buffer;
 mod answers;
+mod faults;
 mod loader;
 mod portions;
 mod progress;

@@ -10,6 +10,7 @@ ghost use Rattle.loader.specs.Progresses.{coded, ended, hand_after, outcome_of, 
 ghost use Rattle.loader.specs.Faults.{in_command};
 ghost use Rattle.commands.specs.Kinds.{kind_byte};
 
+use crate::faults::Refused;
 use crate::progress::Progress;
 use checksum::Checksum;
 use commands::Kind;
@@ -157,10 +158,7 @@ fn set_next<F: Flash>(
 fn in_command(kind: Kind, answer: Result<Progress, MemoryFault>) -> Result<Progress, CommandFault>
     ensures { MatchResult answer (λ progress. result ≡ Ok progress) (λ fault. result ≡ Err (in_command (kind_byte kind) fault)) }
 {
-    answer.map_err(|memory| CommandFault {
-        memory,
-        command: u8::from(kind),
-    })
+    Ok(answer.map_err(|memory| Refused { kind, memory })?)
 }
 
 // The next portion of a command in hand. A refusal of the flash becomes the command's report.
