@@ -85,7 +85,7 @@ misuse ticket_used_twice 'error[borrow-e0382]: use of moved value: `ticket`'
 misuse loader_used_after_off 'error[borrow-e0382]: borrow of moved value: `loader`'
 misuse ticket_let_go 'it is not proved that what `drop` requires holds at this call (`drop-ticket-requires`)'
 misuse ticket_forgotten 'the borrow checker does not cover this function yet: a call of `core::mem::forget`: it passes `loader::ticket::Ticket::drop`'
-misuse work_unheard 'error[linear-value-let-go]: this value is let go, since nothing takes it, and `Worked` is not `Drop`'
+misuse work_unheard 'it is not proved that what `drop` requires holds at this call (`drop-work-requires`)'
 misuse loader_let_go 'error[linear-value-let-go]: `loader` is let go where its block ends'
 misuse ticket_made 'error[private-field]: field `spent` of struct `Ticket` is private'
 
