@@ -8,3 +8,6 @@ mod replies;
 pub use form::{Form, Order};
 pub use parser::parse;
 pub use replies::{answer_line, reply};
+
+#[cfg(test)]
+mod tests;

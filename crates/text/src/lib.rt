@@ -13,3 +13,6 @@ pub use hexadecimal::Hexadecimal;
 pub use output::Line;
 pub use verbs::Verb;
 pub use words::Words;
+
+#[cfg(test)]
+mod tests;
