@@ -52,4 +52,4 @@ ordered_as i level m f Ignore = waiting []
 ordered_as i level m f (Refuse code) = answering (code_answer code)
 ordered_as i level m f (Tell what) = answering (data_answer (information i level m.pages (information_number what)))
 ordered_as i level m f (Show area first count) = answering (data_answer (bytes_of_words (words_at m area first count)))
-ordered_as i level m f (Take task) = taking (hand_for task f)
+ordered_as i level m f (Take busy) = taking (hand_for busy.task f)

@@ -88,10 +88,10 @@ task_in Data = None
 task_in Crc = None
 task_in (Busy busy) = Some busy
 
--- an order shows no more than an answer holds, and its task is a command whose numbers can be added up
+-- an order shows no more than an answer holds, and its task is a command
 abbrev pub Modest : Order → Type 0
 Modest Ignore = Unit {0}
 Modest (Refuse code) = Unit {0}
 Modest (Tell what) = Unit {0}
 Modest (Show area first count) = count ≤ 128
-Modest (Take task) = (bounded task ≡ true) × (ticket_for task ≡ false)
+Modest (Take busy) = ticket_for busy.task ≡ false

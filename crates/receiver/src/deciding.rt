@@ -8,8 +8,9 @@ ghost use Rattle.commands.specs.Requests.{erase_within, stored_bytes};
 ghost use Rattle.part.specs.declared.identity.Identity.{Identity};
 ghost use Rattle.part.specs.Receiving.{answered, served, taking, write_task, erase_task};
 ghost use Rattle.receiver.specs.Receivers.{ordered_as};
-ghost use Rattle.receiver.specs.States.{hand_for, bounded, ticket_for, Modest};
+ghost use Rattle.receiver.specs.States.{hand_for, ticket_for, Modest};
 
+use crate::bounded_task::BoundedTask;
 use crate::state::Order;
 use crate::task::Task;
 use areas::{Area, place_of};
@@ -17,20 +18,22 @@ use commands::{EraseMode, Information, Level, Refusal};
 use frame::{Command, WriteData, judge};
 
 // The pages of an Erase that lie in the flash, with none of them done.
-fn erase_task(pages: u32, mode: u8, index: u32, count: u32) -> Task
+fn erase_task(pages: u32, mode: u8, index: u32, count: u32) -> BoundedTask
     requires { erase_within pages mode index count ≡ true }
-    ensures erases { (s : List ℕ) → hand_for result s ≡ erase_task pages mode index count }
-    ensures modest { (bounded result ≡ true) × (ticket_for result ≡ false) }
+    ensures erases { (s : List ℕ) → hand_for result.task s ≡ erase_task pages mode index count }
+    ensures command { ticket_for result.task ≡ false }
 {
     let (first, count) = match EraseMode::try_from(mode) {
         Ok(EraseMode::Pages) => (index, count),
         Ok(EraseMode::Blocks) => (8 * index, 8 * count),
         Ok(EraseMode::All) | Err(_) => (0, pages),
     };
-    Task::Erasing {
-        first,
-        count,
-        done: 0,
+    BoundedTask {
+        task: Task::Erasing {
+            first,
+            count,
+            done: 0,
+        },
     }
 }
 
@@ -42,12 +45,16 @@ fn write_order(pages: u32, written: WriteData<'_>) -> Order
 {
     let words = written.count();
     match place_of(pages, written.address()) {
-        (Area::User, first) => Order::Take(Task::Writing {
-            first,
-            words,
-            done: 0,
+        (Area::User, first) => Order::Take(BoundedTask {
+            task: Task::Writing {
+                first,
+                words,
+                done: 0,
+            },
         }),
-        (Area::Options, first) => Order::Take(Task::Setting { first, words }),
+        (Area::Options, first) => Order::Take(BoundedTask {
+            task: Task::Setting { first, words },
+        }),
         (Area::Outside, _) => Order::Ignore,
     }
 }
@@ -75,19 +82,25 @@ fn order(command: Command<'_>, pages: u32) -> Order
             value,
         } => {
             let (_, first) = place_of(pages, address);
-            Order::Take(Task::Checking {
-                first,
-                count: count / 4,
-                value,
-                done: 0,
-                register: 0xFFFF,
+            Order::Take(BoundedTask {
+                task: Task::Checking {
+                    first,
+                    count: count / 4,
+                    value,
+                    done: 0,
+                    register: 0xFFFF,
+                },
             })
         }
         Command::Erase { mode, index, count } => {
             Order::Take(erase_task(pages, mode, index, count))
         }
-        Command::Protect => Order::Take(Task::Protecting),
-        Command::Unprotect => Order::Take(Task::Unprotecting { done: 0 }),
+        Command::Protect => Order::Take(BoundedTask {
+            task: Task::Protecting,
+        }),
+        Command::Unprotect => Order::Take(BoundedTask {
+            task: Task::Unprotecting { done: 0 },
+        }),
     }
 }
 
@@ -95,7 +108,7 @@ fn order(command: Command<'_>, pages: u32) -> Order
 // has the frame at its head.
 pub fn decide(frame: &[u8], level: Level, pages: u32) -> Order
     ensures is_what_the_frame_asks_for { (i : Identity) (m : Meaning) (s : List ℕ) → m.pages ≡ pages → take (length frame.now) s ≡ frame.now → answered i level m (judged level pages frame.now) ≡ ordered_as i level m s result }
-    ensures fits_an_answer_and_32_bits { Modest result }
+    ensures fits_an_answer_and_takes_a_command { Modest result }
 {
     match judge(frame, level, pages) {
         Ok(command) => order(command, pages),

@@ -1,6 +1,5 @@
 // Where a receiver stands, and what comes of a byte and of a frame.
 use crate::bounded_task::BoundedTask;
-use crate::task::Task;
 use areas::Area;
 use commands::{Code, Information};
 
@@ -45,5 +44,5 @@ pub enum Order {
     // so many words of an area, from a number on
     Show { area: Area, first: u32, count: u32 },
     // a command that takes work calls
-    Take(Task),
+    Take(BoundedTask),
 }

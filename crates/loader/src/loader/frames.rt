@@ -11,7 +11,7 @@ use crate::answers::Received;
 use crate::loader::Loader;
 use commands::Code;
 use flash::Flash;
-use receiver::{BoundedTask, Order, Reception, decide};
+use receiver::{Order, Reception, decide};
 
 impl<F: Flash> Loader<F> {
     // Does what a whole frame asks for.
@@ -35,7 +35,7 @@ impl<F: Flash> Loader<F> {
                 Received::Bytes(buffer.put_words(&self.flash, area, first, count))
             }
             Order::Take(task) => {
-                self.receiver.hold_bounded(BoundedTask { task });
+                self.receiver.hold_bounded(task);
                 Received::TakenUp
             }
         }

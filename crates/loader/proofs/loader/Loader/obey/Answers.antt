@@ -73,7 +73,7 @@ returns-in-Take g c =
     let done = subst (Obeyed (part_of m l) _ _ c.args.buffer.now _) e (record {
       answers = refl;
       leaves = takes_up m l c.hold_bounded.new.self _ c.requires
-          c.hold_bounded.ensures.is_busy_with_it c.hold_bounded.ensures.keeps_the_frame c.in-Take.ensures.fits_an_answer_and_32_bits.1;
+          c.hold_bounded.ensures.is_busy_with_it c.hold_bounded.ensures.keeps_the_frame c.in-Take.ensures.fits_an_answer_and_takes_a_command;
       puts = record { head = refl; loan = refl };
     }) in
     record { answers = done.answers; leaves = done.leaves; puts = done.puts }
