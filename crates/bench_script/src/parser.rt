@@ -46,10 +46,7 @@ fn bytes_in(heap: Global, words: Words<'_>) -> Result<Option<Form>, AllocError>
 fn work(mut words: Words<'_>) -> Option<Form>
     ensures reads_the_words_behind_work { option_map meant result ≡ asked_by Verb.Work (left words.entry) }
 {
-    let calls = words.number(9999)?;
-    if calls < 1 {
-        return None;
-    }
+    let calls = words.number(9999).filter(|calls| *calls >= 1)?;
     words.ended(Form::Work { calls })
 }
 

@@ -35,10 +35,7 @@ fn export(request: Request<&[u8]>, buffer: &mut [u8]) -> usize
 pub extern "C" fn ciu32_verdict(frame: &[u8], level: u32, pages: u32) -> usize
     ensures is_the_number_of_the_verdict { result ≡ verdict_number (verdict_of level pages frame.now) }
 {
-    match verdict(frame, level, pages) {
-        Ok(code) => number(Refusal::Code(code)),
-        Err(local) => number(Refusal::Local(local)),
-    }
+    number(verdict(frame, level, pages).map_or_else(Refusal::Local, Refusal::Code))
 }
 
 // Writes the frame of a Get.

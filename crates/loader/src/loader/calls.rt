@@ -16,10 +16,9 @@ use receiver::Receiver;
 fn level_in(word: u32) -> Level
     ensures { result ≡ level_of word }
 {
-    if word % 256 == 0xAA {
-        Level::Open
-    } else {
-        Level::Locked
+    match word.to_le_bytes() {
+        [0xAA, ..] => Level::Open,
+        _ => Level::Locked,
     }
 }
 
