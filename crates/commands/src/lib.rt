@@ -4,10 +4,13 @@
 
 mod codes;
 mod kinds;
+mod refusing;
 mod rules;
 
 pub use codes::{Code, Local, NoCode, Refusal};
 pub use kinds::{
     EraseMode, Information, Kind, Level, NoCommand, NoInformation, NoMode, SUPPORTED, supported,
 };
-pub use rules::{aligned, erase_known, erase_within, in_one_page, whole_words, wrong_length};
+pub use rules::{
+    aligned, erase_known, erase_within, in_one_page, some_words, whole_words, wrong_length,
+};

@@ -1,6 +1,7 @@
 // The rules for a command's length and parameters, on numbers. The part and the host's writer test the same ones.
-ghost use Rattle.std.specs.Prelude.{◌≡◌, ◌%◌, not, ◌==◌};
+ghost use Rattle.std.specs.Prelude.{◌≡◌, ◌%◌, not, ◌||◌, ◌==◌};
 ghost use Rattle.commands.specs.Requests.{whole_words as wholeWords, wrong_length, one_page, erase_known, erase_within};
+ghost use Rattle.commands.specs.Kinds.{mode_byte};
 
 use crate::{EraseMode, Kind};
 
@@ -9,6 +10,13 @@ pub fn whole_words(count: usize) -> bool
     ensures tells_four_to_512_by_four { result ≡ wholeWords count }
 {
     4 <= count && count <= 512 && count % 4 == 0
+}
+
+// Whether so many bytes are whole words, at least one: what a Memory CRC can run over.
+pub fn some_words(count: u32) -> bool
+    ensures tells_a_multiple_of_four_above_zero { result ≡ not (count == 0 || not (count % 4 == 0)) }
+{
+    count != 0 && count % 4 == 0
 }
 
 // Whether a data field of so many bytes has a length that the command does not have.
@@ -44,13 +52,36 @@ pub fn in_one_page(address: u32, count: u32) -> bool
     first / 512 == (end - 1) / 512
 }
 
+impl EraseMode {
+    // Whether an Erase by the mode can have such an index and count.
+    pub fn knows(self, index: u32, count: u32) -> bool
+        ensures tells_some_pages_or_blocks_or_all { result ≡ erase_known (mode_byte self) index count }
+    {
+        match self {
+            EraseMode::Pages | EraseMode::Blocks => count != 0,
+            EraseMode::All => index == 0 && count == 0,
+        }
+    }
+
+    // Whether the pages or blocks of an Erase by the mode lie in a flash of so many pages.
+    pub fn within(self, pages: u32, index: u32, count: u32) -> bool
+        ensures tells_whether_its_pages_exist { result ≡ erase_within pages (mode_byte self) index count }
+    {
+        let end = index as u64 + count as u64;
+        match self {
+            EraseMode::Pages => end <= pages as u64,
+            EraseMode::Blocks => end <= (pages / 8) as u64,
+            EraseMode::All => true,
+        }
+    }
+}
+
 // Whether an Erase has a mode, and an index and a count that the mode knows.
 pub fn erase_known(mode: u8, index: u32, count: u32) -> bool
     ensures tells_pages_blocks_or_all { result ≡ erase_known mode index count }
 {
     match EraseMode::try_from(mode) {
-        Ok(EraseMode::Pages | EraseMode::Blocks) => count != 0,
-        Ok(EraseMode::All) => index == 0 && count == 0,
+        Ok(mode) => mode.knows(index, count),
         Err(_) => false,
     }
 }
@@ -59,10 +90,8 @@ pub fn erase_known(mode: u8, index: u32, count: u32) -> bool
 pub fn erase_within(pages: u32, mode: u8, index: u32, count: u32) -> bool
     ensures tells_whether_all_pages_exist { result ≡ erase_within pages mode index count }
 {
-    let end = index as u64 + count as u64;
     match EraseMode::try_from(mode) {
-        Ok(EraseMode::Pages) => end <= pages as u64,
-        Ok(EraseMode::Blocks) => end <= (pages / 8) as u64,
-        Ok(EraseMode::All) | Err(_) => true,
+        Ok(mode) => mode.within(pages, index, count),
+        Err(_) => true,
     }
 }
