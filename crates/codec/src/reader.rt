@@ -11,11 +11,8 @@ fn take_apart<'a>(input: &'a [u8]) -> Result<Answer<'a>, Local>
     ensures { answered result ≡ reading input.now }
 {
     let content = open_frame(input, 0xB3, 512)?;
-    let Ok(code) = Code::try_from(content.tag) else {
-        return Err(Local::UnknownCode);
-    };
     Ok(Answer {
-        code,
+        code: Code::try_from(content.tag)?,
         at: content.at,
         bytes: content.bytes,
     })

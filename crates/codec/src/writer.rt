@@ -8,7 +8,8 @@ ghost use Rattle.codec.specs.Writing.{asking, frame_for, unstopped, demanded, wr
 
 use crate::request::Request;
 use commands::{
-    Code, Information, Kind, Local, Refusal, aligned, erase_known, in_one_page, whole_words,
+    Code, Information, Kind, Local, Refusal, aligned, erase_known, in_one_page, some_words,
+    whole_words,
 };
 use frame::put_frame;
 
@@ -49,7 +50,7 @@ fn check(request: Request<&[u8]>) -> Result<(), Refusal>
         Request::Write { address, bytes } => check_write(address, bytes),
         Request::MemoryCrc { address, count, .. } => {
             unless(aligned(address), Code::NotAligned)?;
-            unless(count != 0 && count % 4 == 0, Code::WrongParameter)
+            unless(some_words(count), Code::WrongParameter)
         }
         Request::Erase { mode, index, count } => unless(
             erase_known(mode, index, count),

@@ -1,5 +1,5 @@
 -- Where a frame is stopped: the first place that applies answers.
-use Rattle.std.specs.Prelude.{◌≡◌, ℕ, Bool, false, cond, List, length, take, drop, Some, None, Ok, Err, Option, Result}
+use Rattle.std.specs.Prelude.{◌≡◌, ℕ, Bool, true, false, cond, List, length, take, drop, Some, None, Ok, Err, Option, Result}
 use Rattle.commands.specs.declared.codes.Code.{Code}
 use Rattle.commands.specs.declared.codes.Code.TheVariants.{NotAllowed, WrongLength, NotAligned, OutOfRange, WrongParameter, UnknownCommand}
 use Rattle.commands.specs.declared.codes.Refusal.{Refusal}
@@ -10,7 +10,7 @@ use Rattle.frame.specs.declared.layout.Flaw.{Flaw}
 use Rattle.frame.specs.declared.command.Command.{Command}
 use Rattle.frame.specs.declared.command.Command.TheVariants.{Get, Read, Write, MemoryCrc, Erase, Protect, Unprotect}
 use Rattle.frame.specs.Flaws.{stopped_by}
-use Rattle.commands.specs.Kinds.{kind_of, forbidden}
+use Rattle.commands.specs.Kinds.{kind_of, forbidden, information_number, mode_byte}
 use Rattle.frame.specs.Layout.{Held, opened, command_head, command_most}
 use Rattle.commands.specs.Requests.{Request, get, read, write, memory_crc, erase, protect, unprotect, request_of, wrong_length, misaligned, wrong_parameter, out_of_range}
 
@@ -44,11 +44,11 @@ judged level P f = stop_frame (forbidden level) (out_of_range P) (opened command
 
 -- what a command asks for
 abbrev pub asked : Command → Request
-asked (Get information) = get information
+asked (Get information) = get (information_number information)
 asked (Read address count) = read address count
 asked (Write at payload) = write payload.address payload.bytes.now
 asked (MemoryCrc address count value) = memory_crc address count value
-asked (Erase mode index count) = erase mode index count
+asked (Erase mode index count) = erase (mode_byte mode) index count
 asked Protect = protect
 asked Unprotect = unprotect
 
@@ -56,6 +56,11 @@ asked Unprotect = unprotect
 abbrev pub asked_or_refused : Result Command Refusal → Result Request Refusal
 asked_or_refused (Ok c) = Ok (asked c)
 asked_or_refused (Err e) = Err e
+
+-- a command that asks for just that, or the parameter place, where it applies and the alignment place does not
+abbrev pub Asks : Request → Result Command Refusal → Type 0
+Asks q (Ok c) = asked c ≡ q
+Asks q (Err e) = (misaligned q ≡ false) × (wrong_parameter q ≡ true) × (e ≡ Answer WrongParameter)
 
 -- a Write's bytes are the part of the frame that begins at its place, which is 8
 abbrev pub Placed : List ℕ → Command → Type 0

@@ -1,12 +1,13 @@
 // A finished frame, told apart as one command.
 use crate::write_data::WriteData;
+use commands::{EraseMode, Information};
 
 // A command as it was received. The data of a Write are borrowed from the frame, and `at` is the
 // place where they begin there.
 #[derive(Clone, Copy)]
 pub enum Command<'a> {
     Get {
-        information: u8,
+        information: Information,
     },
     Read {
         address: u32,
@@ -22,7 +23,7 @@ pub enum Command<'a> {
         value: u16,
     },
     Erase {
-        mode: u8,
+        mode: EraseMode,
         index: u32,
         count: u32,
     },

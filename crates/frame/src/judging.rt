@@ -1,6 +1,6 @@
 // Where a frame is stopped, and the command that a frame is.
 ghost use Rattle.std.specs.Prelude.{◌≡◌, true, false, length, IfOk};
-ghost use Rattle.frame.specs.Places.{asked, asked_or_refused, Placed, Standing, judged, Lawful};
+ghost use Rattle.frame.specs.Places.{asked, asked_or_refused, Asks, Placed, Standing, judged, Lawful};
 ghost use Rattle.commands.specs.Requests.{request_of, wrong_length, misaligned, wrong_parameter, out_of_range};
 
 use crate::command::Command;
@@ -8,19 +8,20 @@ use crate::opening::{four_at, open_frame, two_at};
 use crate::write_data::WriteData;
 use areas::{Area, addressable};
 use commands::{
-    Code, Information, Kind, Level, Refusal, aligned, erase_known, erase_within, whole_words,
+    Code, EraseMode, Information, Kind, Level, Refusal, aligned, some_words, whole_words,
     wrong_length,
 };
 
-// The command of a data field that has the command's length.
-fn command_of<'a>(kind: Kind, bytes: &'a [u8]) -> Command<'a>
+// The command of a data field that has the command's length. A number that names no information and no mode is
+// place 7's, which comes next: place 6 has nothing to stop there.
+fn command_of<'a>(kind: Kind, bytes: &'a [u8]) -> Result<Command<'a>, Refusal>
     requires { wrong_length kind (length bytes.now) ≡ false }
-    ensures asks { asked result ≡ request_of kind bytes.now }
-    ensures at { Standing bytes.now result }
+    ensures asks { Asks (request_of kind bytes.now) result }
+    ensures at { IfOk result (Standing bytes.now) }
 {
-    match kind {
+    Ok(match kind {
         Kind::Get => Command::Get {
-            information: bytes[0],
+            information: Information::try_from(bytes[0])?,
         },
         Kind::Read => Command::Read {
             address: four_at(bytes, 0),
@@ -36,13 +37,13 @@ fn command_of<'a>(kind: Kind, bytes: &'a [u8]) -> Command<'a>
             value: two_at(bytes, 8),
         },
         Kind::Erase => Command::Erase {
-            mode: bytes[0],
+            mode: EraseMode::try_from(bytes[0])?,
             index: four_at(bytes, 1),
             count: four_at(bytes, 5),
         },
         Kind::Protect => Command::Protect,
         Kind::Unprotect => Command::Unprotect,
-    }
+    })
 }
 
 // Place 6 for a command.
@@ -61,12 +62,11 @@ fn command_unknown(command: Command<'_>) -> bool
     ensures { result ≡ wrong_parameter (asked command.entry) }
 {
     match command {
-        Command::Get { information } => Information::try_from(information).is_err(),
         Command::Read { count, .. } => !whole_words(count as usize),
         Command::Write { data, .. } => !data.in_one_page(),
-        Command::MemoryCrc { count, .. } => count == 0 || count % 4 != 0,
-        Command::Erase { mode, index, count } => !erase_known(mode, index, count),
-        Command::Protect | Command::Unprotect => false,
+        Command::MemoryCrc { count, .. } => !some_words(count),
+        Command::Erase { mode, index, count } => !mode.knows(index, count),
+        Command::Get { .. } | Command::Protect | Command::Unprotect => false,
     }
 }
 
@@ -78,7 +78,7 @@ fn command_beyond(command: Command<'_>, pages: u32) -> bool
         Command::Read { address, count } => !addressable(pages, address, count as u32),
         Command::Write { data, .. } => !data.addressable(pages),
         Command::MemoryCrc { address, count, .. } => !Area::User.holds(pages, address, count),
-        Command::Erase { mode, index, count } => !erase_within(pages, mode, index, count),
+        Command::Erase { mode, index, count } => !mode.within(pages, index, count),
         Command::Get { .. } | Command::Protect | Command::Unprotect => false,
     }
 }
@@ -90,16 +90,14 @@ pub fn judge<'a>(frame: &'a [u8], level: Level, pages: u32) -> Result<Command<'a
     ensures a_command_keeps_the_rules { IfOk result (λ c. Lawful pages c) }
 {
     let content = open_frame(frame, 0x85, 516)?;
-    let Ok(kind) = Kind::try_from(content.tag) else {
-        return Err(Refusal::Code(Code::UnknownCommand));
-    };
+    let kind = Kind::try_from(content.tag)?;
     if level.forbids(kind) {
         return Err(Refusal::Code(Code::NotAllowed));
     }
     if wrong_length(kind, content.bytes.len()) {
         return Err(Refusal::Code(Code::WrongLength));
     }
-    let command = command_of(kind, content.bytes);
+    let command = command_of(kind, content.bytes)?;
     if command_misaligned(command) {
         return Err(Refusal::Code(Code::NotAligned));
     }

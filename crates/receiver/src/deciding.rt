@@ -3,6 +3,7 @@ ghost use Rattle.std.specs.Prelude.{◌≡◌, ℕ, ◌/◌, true, false, List, 
 ghost use Rattle.areas.specs.Areas.{wholly, place_of};
 ghost use Rattle.flash.specs.Meaning.{Meaning};
 ghost use Rattle.commands.specs.declared.kinds.Level.{Level};
+ghost use Rattle.commands.specs.Kinds.{mode_byte};
 ghost use Rattle.frame.specs.Places.{judged, asked, Placed, Lawful};
 ghost use Rattle.commands.specs.Requests.{erase_within, stored_bytes};
 ghost use Rattle.part.specs.declared.identity.Identity.{Identity};
@@ -14,19 +15,19 @@ use crate::bounded_task::BoundedTask;
 use crate::state::Order;
 use crate::task::Task;
 use areas::{Area, place_of};
-use commands::{EraseMode, Information, Level, Refusal};
+use commands::{EraseMode, Level, Refusal};
 use frame::{Command, WriteData, judge};
 
 // The pages of an Erase that lie in the flash, with none of them done.
-fn erase_task(pages: u32, mode: u8, index: u32, count: u32) -> BoundedTask
-    requires { erase_within pages mode index count ≡ true }
-    ensures erases { (s : List ℕ) → hand_for result.task s ≡ erase_task pages mode index count }
+fn erase_task(pages: u32, mode: EraseMode, index: u32, count: u32) -> BoundedTask
+    requires { erase_within pages (mode_byte mode) index count ≡ true }
+    ensures erases { (s : List ℕ) → hand_for result.task s ≡ erase_task pages (mode_byte mode) index count }
     ensures command { ticket_for result.task ≡ false }
 {
-    let (first, count) = match EraseMode::try_from(mode) {
-        Ok(EraseMode::Pages) => (index, count),
-        Ok(EraseMode::Blocks) => (8 * index, 8 * count),
-        Ok(EraseMode::All) | Err(_) => (0, pages),
+    let (first, count) = match mode {
+        EraseMode::Pages => (index, count),
+        EraseMode::Blocks => (8 * index, 8 * count),
+        EraseMode::All => (0, pages),
     };
     BoundedTask {
         task: Task::Erasing {
@@ -66,7 +67,7 @@ fn order(command: Command<'_>, pages: u32) -> Order
     ensures modest { Modest result }
 {
     match command {
-        Command::Get { information } => Order::Tell(Information::try_from(information).unwrap()),
+        Command::Get { information } => Order::Tell(information),
         Command::Read { address, count } => {
             let (area, first) = place_of(pages, address);
             Order::Show {

@@ -87,10 +87,9 @@ impl<'a> WriteData<'a> {
     pub fn word(&self, i: u8) -> u32
         ensures is_the_word_of_that_number { result ≡ word_at self.now.bytes.now (4 * i) }
     {
-        match self.words().get(i as usize) {
-            Some(word) => u32::from_le_bytes(*word),
-            None => 0,
-        }
+        self.words()
+            .get(i as usize)
+            .map_or(0, |word| u32::from_le_bytes(*word))
     }
 
     // Puts the words at the head of `out`, the low byte of each first, and tells how many there are.

@@ -5,19 +5,15 @@ use Rattle.areas.specs.Words.{bytes_of_words}
 use Rattle.frame.specs.Places.{asked, Placed}
 use Rattle.memory.specs.Portions.{words_at}
 use Rattle.part.specs.Parts.{doing, checking}
-use Rattle.part.specs.Receiving.{served, answering, data_answer, taking, write_task, erase_task, information}
-use Rattle.commands.specs.Kinds.{informations, information_of, no_information}
-use Rattle.commands.proofs.Conversions.{some_where_ok, number_told}
+use Rattle.part.specs.Receiving.{served, answering, data_answer, taking, write_task, erase_task}
+use Rattle.commands.specs.Kinds.{mode_byte}
 use Rattle.receiver.proofs.Stored.{stored_same}
 use Rattle.receiver.proofs.deciding.order.Goals as goal
 
 pub returns-in-Get : goal.returns-in-Get
 unfolding served
 returns-in-Get c = record {
-  serves = λ i level m f s p q t.
-      let known = some_where_ok (information_of c.in-Get.information) (no_information c.in-Get.information) c.unwrap.result (sym c.unwrap.ensures ∙ c.try_from.ensures) in
-      ap (λ x. served i level m (asked x)) c.in-Get.is
-      ∙ ap (λ (n : ℕ). answering (data_answer (information i level m.pages n))) (number_told informations c.in-Get.information c.unwrap.result known);
+  serves = λ i level m f s p q t. ap (λ x. served i level m (asked x)) c.in-Get.is;
   modest = search rules;
 }
 
@@ -60,7 +56,7 @@ unfolding served
 returns-in-Erase c = record {
   serves = λ i level m f s p q t.
       ap (λ x. served i level m (asked x)) c.in-Erase.is
-      ∙ ap (λ (P : ℕ). taking (erase_task P c.in-Erase.mode c.in-Erase.index c.in-Erase.count)) p
+      ∙ ap (λ (P : ℕ). taking (erase_task P (mode_byte c.in-Erase.mode) c.in-Erase.index c.in-Erase.count)) p
       ∙ sym (ap taking (c.erase_task.ensures.erases s));
   modest = search rules;
 }
