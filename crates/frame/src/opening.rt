@@ -1,17 +1,27 @@
 // Taking one whole frame apart.
-ghost use Rattle.std.specs.Prelude.{◌≡◌, ◌+◌, ◌≤◌, length, ◌==◌};
+ghost use Rattle.std.specs.Prelude.{◌≡◌, ◌+◌, ◌≤◌, length, take, drop, ◌==◌};
 ghost use Rattle.checksum.specs.Crc.{crc};
 ghost use Rattle.commands.specs.Fields.{two, four};
 ghost use Rattle.frame.specs.Layout.{total, held, opened};
 
 use crate::layout::{Content, Flaw};
 
+// So many bytes from a place on.
+fn bytes_at<const N: usize>(bytes: &[u8], at: usize) -> [u8; N]
+    requires { at + N ≤ length bytes.now }
+    ensures { result ≡ take N (drop at bytes.now) }
+{
+    let mut field = [0; N];
+    field.copy_from_slice(&bytes[at..at + N]);
+    field
+}
+
 // The number in two bytes, the high byte first.
 pub(crate) fn two_at(bytes: &[u8], at: usize) -> u16
     requires { at + 2 ≤ length bytes.now }
     ensures { result ≡ two bytes.now at }
 {
-    u16::from_be_bytes([bytes[at], bytes[at + 1]])
+    u16::from_be_bytes(bytes_at(bytes, at))
 }
 
 // The number in four bytes, the high byte first.
@@ -19,7 +29,7 @@ pub(crate) fn four_at(bytes: &[u8], at: usize) -> u32
     requires { at + 4 ≤ length bytes.now }
     ensures { result ≡ four bytes.now at }
 {
-    u32::from_be_bytes([bytes[at], bytes[at + 1], bytes[at + 2], bytes[at + 3]])
+    u32::from_be_bytes(bytes_at(bytes, at))
 }
 
 // How many bytes a frame with so many bytes of data has.
