@@ -48,10 +48,8 @@ impl text::Verb for Verb {
 fn get(mut words: Words<'_>) -> Option<Form>
     ensures { option_map meant result ≡ asked_by Verb.Get words.entry }
 {
-    let information = words.number(255)?;
-    words.ended(Form::Request(Order::Get {
-        information: information as u8,
-    }))
+    let information = u8::try_from(words.number(255)?).ok()?;
+    words.ended(Form::Request(Order::Get { information }))
 }
 
 // The words behind `read`.
@@ -59,11 +57,8 @@ fn read(mut words: Words<'_>) -> Option<Form>
     ensures { option_map meant result ≡ asked_by Verb.Read words.entry }
 {
     let address = words.hexadecimal()?;
-    let count = words.number(65535)?;
-    words.ended(Form::Request(Order::Read {
-        address,
-        count: count as u16,
-    }))
+    let count = u16::try_from(words.number(65535)?).ok()?;
+    words.ended(Form::Request(Order::Read { address, count }))
 }
 
 // The words behind `write`.
