@@ -1,7 +1,6 @@
 // Reading a line of a bench.
 ghost use Rattle.std.specs.Prelude.{◌≡◌, IfOk};
 ghost use Rattle.std.specs.Option.{option_map};
-ghost use Rattle.text.specs.Cursor.{left};
 ghost use Rattle.text.specs.Texts.{Reads};
 ghost use Rattle.bench_script.specs.Forms.{Asked, meant, verb_text, verb_for, words_for, shown, Fits};
 ghost use Rattle.bench_script.specs.Grammar.{verbs, asked_by, asked_on};
@@ -32,7 +31,7 @@ impl text::Verb for Verb {
 
 // The words behind `in`.
 fn bytes_in(heap: Global, words: Words<'_>) -> Result<Option<Form>, AllocError>
-    ensures reads_the_words_behind_in { IfOk result (λ o. option_map meant o ≡ asked_by Verb.In (left words.entry)) }
+    ensures reads_the_words_behind_in { IfOk result (λ o. option_map meant o ≡ asked_by Verb.In words.entry) }
 {
     let bytes = words.bytes(heap)?;
     Ok(
@@ -44,7 +43,7 @@ fn bytes_in(heap: Global, words: Words<'_>) -> Result<Option<Form>, AllocError>
 
 // The words behind `work`.
 fn work(mut words: Words<'_>) -> Option<Form>
-    ensures reads_the_words_behind_work { option_map meant result ≡ asked_by Verb.Work (left words.entry) }
+    ensures reads_the_words_behind_work { option_map meant result ≡ asked_by Verb.Work words.entry }
 {
     let calls = words.number(9999).filter(|calls| *calls >= 1)?;
     words.ended(Form::Work { calls })

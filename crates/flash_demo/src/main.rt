@@ -147,32 +147,39 @@ impl<P: Print, F: Flash> Demo<'_, P, F> {
 
     fn show_word(&self, i: u32) -> io::Result<()> {
         print!(self.rt; "word {i}: ")?;
-        self.show_answer(self.flash.word(i))
+        self.show(self.flash.word(i), |word| println!(self.rt; "{word:08X}"))
     }
 
     fn show_option(&self, i: u32) -> io::Result<()> {
         print!(self.rt; "option word {i}: ")?;
-        self.show_answer(self.flash.option_word(i))
+        self.show(
+            self.flash.option_word(i),
+            |word| println!(self.rt; "{word:08X}"),
+        )
     }
 
     fn show_left(&self, page: u32) -> io::Result<()> {
         print!(self.rt; "erases left of page {page}: ")?;
-        match self.flash.erases_left(page) {
-            Ok(left) => println!(self.rt; "{left}"),
-            Err(fault) => println!(self.rt; "refused, {fault}"),
-        }
-    }
-
-    fn show_answer(&self, answer: Result<u32, FlashFault>) -> io::Result<()> {
-        match answer {
-            Ok(word) => println!(self.rt; "{word:08X}"),
-            Err(fault) => println!(self.rt; "refused, {fault}"),
-        }
+        self.show(
+            self.flash.erases_left(page),
+            |left| println!(self.rt; "{left}"),
+        )
     }
 
     fn show_done(&self, answer: Result<(), FlashFault>) -> io::Result<()> {
+        self.show(answer, |()| println!(self.rt; "done"))
+    }
+
+    // Prints what was answered, in its own way, or why the flash refused.
+    fn show<T: Drop, S: FnOnce(T) -> io::Result<()>>(
+        &self,
+        answer: Result<T, FlashFault>,
+        print: S,
+    ) -> io::Result<()>
+        requires { S.IsAlwaysCallable print }
+    {
         match answer {
-            Ok(()) => println!(self.rt; "done"),
+            Ok(value) => print(value),
             Err(fault) => println!(self.rt; "refused, {fault}"),
         }
     }

@@ -1,7 +1,6 @@
 // Reading a line of the frame tool.
 ghost use Rattle.std.specs.Prelude.{◌≡◌, IfOk};
 ghost use Rattle.std.specs.Option.{option_map};
-ghost use Rattle.text.specs.Cursor.{left};
 ghost use Rattle.script.specs.Forms.{Asked, meant, verb_text, verb_for, words_for, shown, Fits};
 ghost use Rattle.script.specs.Grammar.{verbs, asked_by, asked_on};
 ghost use Rattle.script.specs.Spelled.{spelling};
@@ -47,29 +46,24 @@ impl text::Verb for Verb {
 
 // The words behind `get`.
 fn get(mut words: Words<'_>) -> Option<Form>
-    ensures { option_map meant result ≡ asked_by Verb.Get (left words.entry) }
+    ensures { option_map meant result ≡ asked_by Verb.Get words.entry }
 {
-    let information = words.number(255)?;
-    words.ended(Form::Request(Order::Get {
-        information: information as u8,
-    }))
+    let information = u8::try_from(words.number(255)?).ok()?;
+    words.ended(Form::Request(Order::Get { information }))
 }
 
 // The words behind `read`.
 fn read(mut words: Words<'_>) -> Option<Form>
-    ensures { option_map meant result ≡ asked_by Verb.Read (left words.entry) }
+    ensures { option_map meant result ≡ asked_by Verb.Read words.entry }
 {
     let address = words.hexadecimal()?;
-    let count = words.number(65535)?;
-    words.ended(Form::Request(Order::Read {
-        address,
-        count: count as u16,
-    }))
+    let count = u16::try_from(words.number(65535)?).ok()?;
+    words.ended(Form::Request(Order::Read { address, count }))
 }
 
 // The words behind `write`.
 fn write(heap: Global, mut words: Words<'_>) -> Result<Option<Form>, AllocError>
-    ensures { IfOk result (λ o. option_map meant o ≡ asked_by Verb.Write (left words.entry)) }
+    ensures { IfOk result (λ o. option_map meant o ≡ asked_by Verb.Write words.entry) }
 {
     let Some(address) = words.hexadecimal() else {
         return Ok(None);
@@ -83,7 +77,7 @@ fn write(heap: Global, mut words: Words<'_>) -> Result<Option<Form>, AllocError>
 
 // The words behind `crc`.
 fn crc(mut words: Words<'_>) -> Option<Form>
-    ensures { option_map meant result ≡ asked_by Verb.Crc (left words.entry) }
+    ensures { option_map meant result ≡ asked_by Verb.Crc words.entry }
 {
     let address = words.hexadecimal()?;
     let count = words.number(u32::MAX)?;
@@ -97,7 +91,7 @@ fn crc(mut words: Words<'_>) -> Option<Form>
 
 // The words behind `erase`.
 fn erase(mut words: Words<'_>) -> Option<Form>
-    ensures { option_map meant result ≡ asked_by Verb.Erase (left words.entry) }
+    ensures { option_map meant result ≡ asked_by Verb.Erase words.entry }
 {
     let mode = words.hexadecimal()?;
     let index = words.number(u32::MAX)?;
@@ -107,14 +101,14 @@ fn erase(mut words: Words<'_>) -> Option<Form>
 
 // The words behind `answer`.
 fn answer(heap: Global, words: Words<'_>) -> Result<Option<Form>, AllocError>
-    ensures { IfOk result (λ o. option_map meant o ≡ asked_by Verb.Answer (left words.entry)) }
+    ensures { IfOk result (λ o. option_map meant o ≡ asked_by Verb.Answer words.entry) }
 {
     Ok(words.bytes(heap)?.map(|bytes| Form::Answer { bytes }))
 }
 
 // The words behind `verdict`.
 fn verdict(heap: Global, mut words: Words<'_>) -> Result<Option<Form>, AllocError>
-    ensures { IfOk result (λ o. option_map meant o ≡ asked_by Verb.Verdict (left words.entry)) }
+    ensures { IfOk result (λ o. option_map meant o ≡ asked_by Verb.Verdict words.entry) }
 {
     let (Some(level), Some(pages)) = (words.number(u32::MAX), words.number(u32::MAX)) else {
         return Ok(None);

@@ -1,7 +1,6 @@
 // What lines ask for: a line begins with a verb, which tells how the words behind it are read.
 ghost use Rattle.std.specs.Prelude.{◌≡◌, ℕ, List, Option, IfOk};
 ghost use Rattle.std.specs.Option.{option_map};
-ghost use Rattle.text.specs.Cursor.{left};
 ghost use Rattle.text.specs.Grammar.{among, asked_by_verb, Spelling};
 ghost use Rattle.text.specs.Lines.{line_text};
 ghost use Rattle.text.specs.Texts.{Reads};
@@ -29,7 +28,7 @@ pub trait Form: Drop {
 
     // The form that a verb and the words behind it are.
     fn behind(heap: Global, verb: Self::Verb, words: Words<'_>) -> Result<Option<Self>, AllocError>
-        ensures reads_the_words_behind_the_verb { IfOk result (λ o. option_map meant o ≡ asked_by verb (left words.entry)) };
+        ensures reads_the_words_behind_the_verb { IfOk result (λ o. option_map meant o ≡ asked_by verb words.entry) };
 
     // what is asked for is read back from its words, and is all that is read of them
     ghost reads_back: { Spelling Self.Verb.spelled (among Self.Verb.spelled Self.Verb.every) asked_by verb_for words_for fits };

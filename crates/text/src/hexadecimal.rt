@@ -87,13 +87,13 @@ impl Hexadecimal for u16 {
 
     fn read(word: &[u8]) -> Option<u16> {
         let (high, low) = halves::<u8>(word)?;
-        Some(high as u16 * 256 + low as u16)
+        Some(u16::from_be_bytes([high, low]))
     }
 
     fn write(self, text: &mut Vec<u8>) -> Result<(), AllocError> {
-        let (high, low) = (self / 256, self % 256);
-        (high as u8).write(text)?;
-        (low as u8).write(text)
+        let [high, low] = self.to_be_bytes();
+        high.write(text)?;
+        low.write(text)
     }
 }
 
@@ -110,8 +110,10 @@ impl Hexadecimal for u32 {
     }
 
     fn write(self, text: &mut Vec<u8>) -> Result<(), AllocError> {
-        let (high, low) = (self / 65536, self % 65536);
-        (high as u16).write(text)?;
-        (low as u16).write(text)
+        let [first, second, third, fourth] = self.to_be_bytes();
+        first.write(text)?;
+        second.write(text)?;
+        third.write(text)?;
+        fourth.write(text)
     }
 }

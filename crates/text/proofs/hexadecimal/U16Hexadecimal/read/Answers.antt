@@ -1,4 +1,4 @@
-use Rattle.std.proofs.Common.{◌≡◌, ◌+◌, ◌*◌, Some, None, sym, ap, ◌∙◌}
+use Rattle.std.proofs.Common.{◌≡◌, ◌+◌, ◌*◌, Some, None, sym, ap, ◌∙◌, arith}
 use Rattle.std.specs.ControlFlow.{continue_value}
 use Rattle.std.specs.Option.{option_map}
 use Rattle.text.specs.Digits.{short_in}
@@ -17,5 +17,6 @@ pub returns : goal.returns
 returns c =
     let w = c.args.word.now in
     let e = short_halves w c.halves.result c.halves.ensures.reads_both_halves in
-    let same : Some (c.in_ok-high.high * 256 + c.in_ok-high.low) ≡ short_in w = ap (option_map (λ p. p.0 * 256 + p.1)) (sym c.in_ok-high.was) ∙ e in
+    let made : c.from_be_bytes.result ≡ c.in_ok-high.high * 256 + c.in_ok-high.low = omega (arith, c.from_be_bytes.ensures) in
+    let same : Some c.from_be_bytes.result ≡ short_in w = ap Some made ∙ ap (option_map (λ p. p.0 * 256 + p.1)) (sym c.in_ok-high.was) ∙ e in
     record { reads_the_digits = same; is_the_number_whose_text_the_word_is = short_reads w _ same }

@@ -1,10 +1,9 @@
 use Rattle.std.proofs.Common.{◌≡◌, ◌++◌, map, drop}
 use Rattle.text.specs.Digits.{hex_byte}
 use Rattle.text.specs.Lines.{more_words}
-use Rattle.text.specs.Making.{so_far}
 use Rattle.text.proofs.output.Line.bytes.Given as goal
 
 abbrev pub invariant-loop-byte : goal.invariant-loop-byte
 invariant-loop-byte l =
-    so_far l.line ++ more_words (map hex_byte (drop l.byte-index l.bytes))
-    ≡ so_far l.initial.line ++ more_words (map hex_byte l.bytes)
+    l.line ++ more_words (map hex_byte (drop l.byte-index l.bytes))
+    ≡ l.initial.line ++ more_words (map hex_byte l.bytes)
