@@ -5,4 +5,5 @@ pub mod Laws
 pub mod Lists
 pub mod Meaning
 pub mod Ranges
+pub mod Texts
 pub mod Words

@@ -1,5 +1,6 @@
-ghost use Rattle.std.specs.Prelude.{◌≡◌};
+ghost use Rattle.std.specs.Prelude.{◌≡◌, Some};
 ghost use Rattle.flash.specs.Faults.{no_option_word, no_page, no_word, options_worn, page_worn, word_not_erased};
+ghost use Rattle.flash.specs.Texts.{asked_text, cause_text, fault_text};
 
 use std::error::Error;
 use std::fmt;
@@ -32,6 +33,8 @@ pub struct FlashFault {
 }
 
 impl fmt::Display for Cause {
+    ghost output = { λ cause. Some (cause_text cause) };
+
     fn fmt<W: fmt::Write>(&self, f: &mut fmt::Formatter<W>) -> fmt::Result {
         f.write_str(match self {
             Cause::Range => "out of range",
@@ -42,6 +45,8 @@ impl fmt::Display for Cause {
 }
 
 impl fmt::Display for Asked {
+    ghost output = { λ asked. Some (asked_text asked) };
+
     fn fmt<W: fmt::Write>(&self, f: &mut fmt::Formatter<W>) -> fmt::Result {
         match self {
             Asked::Page(page) => write!(f, "page {page}"),
@@ -53,6 +58,8 @@ impl fmt::Display for Asked {
 }
 
 impl fmt::Display for FlashFault {
+    ghost output = { λ fault. Some (fault_text fault) };
+
     fn fmt<W: fmt::Write>(&self, f: &mut fmt::Formatter<W>) -> fmt::Result {
         write!(f, "{}, {}", self.cause, self.asked)
     }

@@ -1,7 +1,8 @@
 use crate::driving::{Board, PairBoard, restart, send, serve, work, work_on};
 use flash::{Asked, Cause, Flash, FlashFault};
 use loader::{Answer, Received, off};
-use std::test::Fail;
+use memory::MemoryFault;
+use part::CommandFault;
 
 const BLANK: u32 = 0xFFFF_FFFF;
 
@@ -87,7 +88,7 @@ fn no_page_opens_at_once(rt: HostRuntime) {
 }
 
 #[test]
-fn two_chips_written_and_erased(rt: HostRuntime) -> Result<(), Fail> {
+fn two_chips_written_and_erased(rt: HostRuntime) {
     let mut board = PairBoard::filled(0xFFFF, 0xFFFF);
     let mut buffer = [0u8; 518];
     let mut full = [0u8; 518];
@@ -113,21 +114,19 @@ fn two_chips_written_and_erased(rt: HostRuntime) -> Result<(), Fail> {
     assert!(rt; &buffer[0..4] == DONE);
     assert!(rt; &blank[0..10] == b"\xB3\x90\x00\x04\xFF\xFF\xFF\xFF\x0F\x47".as_slice());
     assert_eq!(rt; flash.erases_left(0), Ok(2));
-    match report {
-        Some(fault) => {
-            assert_eq!(rt; fault.command, 0xF2);
-            assert_eq!(rt; fault.memory.address, 0x0800_0000);
-            assert_eq!(rt;
-                fault.memory.flash,
-                FlashFault {
+    assert_eq!(rt;
+        report,
+        Some(CommandFault {
+            memory: MemoryFault {
+                flash: FlashFault {
                     cause: Cause::NotErased,
                     asked: Asked::Word(0),
-                }
-            );
-            Ok(())
-        }
-        None => Err(Fail::new("no report")),
-    }
+                },
+                address: 0x0800_0000,
+            },
+            command: 0xF2,
+        })
+    );
 }
 
 #[test]

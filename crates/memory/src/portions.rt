@@ -39,12 +39,7 @@ fn option_word<F: Flash>(flash: &F, i: u32) -> u32
 pub fn option_words<F: Flash>(flash: &F) -> [u32; 4]
     ensures are_the_option_words { result ≡ (F.meaning flash.now).options }
 {
-    [
-        option_word(flash, 0),
-        option_word(flash, 1),
-        option_word(flash, 2),
-        option_word(flash, 3),
-    ]
+    [0, 1, 2, 3].map(|i| option_word(flash, i))
 }
 
 // Writes the words over the option words, from `first` on. What would pass the fourth is left out.
