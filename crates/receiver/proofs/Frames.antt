@@ -57,10 +57,6 @@ in_data r e = data_of (held r.store) (moved r.state Data (held r.store) e r.kept
 pub in_crc : (r : Receiver) → r.state ≡ Crc → InCrc (held r.store)
 in_crc r e = crc_of (held r.store) (moved r.state Crc (held r.store) e r.kept)
 
-pub to_header : (s : State) (f : List ℕ) → s ≡ Header → InHeader f → comes_to s f ≡ true
-to_header s f e x =
-    let h : comes_to Header f ≡ true = grind (arith, nat_tests) in moved Header s f (sym e) h
-
 pub to_data : (s : State) (f : List ℕ) → s ≡ Data → InData f → comes_to s f ≡ true
 to_data s f e x =
     let h : comes_to Data f ≡ true = grind (arith, nat_tests) in moved Data s f (sym e) h
