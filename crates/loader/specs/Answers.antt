@@ -1,18 +1,21 @@
 -- A work call's answer and its ticket, apart.
 use Rattle.std.specs.Prelude.{Some, None, Option}
+use Rattle.loader.specs.declared.answers.Answer.{Answer}
+use Rattle.loader.specs.declared.answers.Answer.TheVariants as answer
 use Rattle.loader.specs.declared.answers.Worked.{Worked}
 use Rattle.loader.specs.declared.answers.Worked.TheVariants.{SmallBuffer, Idle, Going, Bytes, BytesAndTicket}
+use Rattle.loader.specs.declared.ticket.Ticket.{Ticket}
 
--- the answer with nothing in the place of the ticket
-abbrev pub answer_of : {T : Type 0} → Worked T → Worked (Unit {0})
-answer_of SmallBuffer = SmallBuffer
-answer_of Idle = Idle
-answer_of Going = Going
-answer_of (Bytes count) = Bytes count
-answer_of (BytesAndTicket count ticket) = BytesAndTicket count tt
+-- the answer without the ticket
+abbrev pub answer_of : Worked → Answer
+answer_of SmallBuffer = answer.SmallBuffer
+answer_of Idle = answer.Idle
+answer_of Going = answer.Going
+answer_of (Bytes count) = answer.Bytes count
+answer_of (BytesAndTicket count ticket) = answer.BytesAndTicket count
 
 -- the ticket, if one came
-abbrev pub ticket_of : {T : Type 0} → Worked T → Option T
+abbrev pub ticket_of : Worked → Option Ticket
 ticket_of SmallBuffer = None
 ticket_of Idle = None
 ticket_of Going = None

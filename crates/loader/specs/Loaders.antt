@@ -60,14 +60,14 @@ received_as (bytes bs) = received.Bytes (length bs)
 received_as (bytes_and_ticket bs) = received.Quiet
 received_as (fault report) = received.Quiet
 
--- the same of a work call, with what comes in the place of the ticket; the cases that none has are given as idle
-abbrev pub worked_as : {T : Type 0} → T → Said → Worked T
-worked_as ticket nothing = worked.Idle
-worked_as ticket small_buffer = worked.SmallBuffer
-worked_as ticket silent = worked.Idle
-worked_as ticket accepted = worked.Idle
-worked_as ticket resting = worked.Idle
-worked_as ticket ongoing = worked.Going
-worked_as ticket (bytes bs) = worked.Bytes (length bs)
-worked_as ticket (bytes_and_ticket bs) = worked.BytesAndTicket (length bs) ticket
-worked_as ticket (fault report) = worked.Idle
+-- the same of a work call; the cases that none has are given as idle
+abbrev pub worked_as : Said → Worked
+worked_as nothing = worked.Idle
+worked_as small_buffer = worked.SmallBuffer
+worked_as silent = worked.Idle
+worked_as accepted = worked.Idle
+worked_as resting = worked.Idle
+worked_as ongoing = worked.Going
+worked_as (bytes bs) = worked.Bytes (length bs)
+worked_as (bytes_and_ticket bs) = worked.BytesAndTicket (length bs) unspent
+worked_as (fault report) = worked.Idle

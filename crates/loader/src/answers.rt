@@ -14,34 +14,37 @@ pub enum Received {
     Bytes(usize),
 }
 
-// What a work call answers. The answer to a served option write comes with a `Ticket`, or with nothing in its place where the
-// ticket is kept beside the loader.
-#[derive(Clone, Copy, PartialEq, Eq, Debug)]
-pub enum Worked<T = Ticket> {
+// What a work call answers. The ticket comes with the answer to a served option write.
+pub enum Worked {
     // the buffer has fewer than 518 bytes: nothing was done
     SmallBuffer,
     Idle,
     Going,
     Bytes(usize),
-    BytesAndTicket(usize, T),
+    BytesAndTicket(usize, Ticket),
 }
 
 // What a work call answers where the ticket is kept beside the loader.
-pub type Answer = Worked<()>;
+#[derive(Clone, Copy, PartialEq, Eq, Debug)]
+pub enum Answer {
+    SmallBuffer,
+    Idle,
+    Going,
+    Bytes(usize),
+    BytesAndTicket(usize),
+}
 
-impl<T> Worked<T> {
+impl Worked {
     // The answer by itself, and the ticket that came with it, if one did.
-    pub fn split(self) -> (Answer, Option<T>)
+    pub fn split(self) -> (Answer, Option<Ticket>)
         ensures is_the_answer_and_its_ticket { result ≡ (answer_of self, ticket_of self) }
     {
         match self {
-            Worked::SmallBuffer => (Worked::SmallBuffer, None),
-            Worked::Idle => (Worked::Idle, None),
-            Worked::Going => (Worked::Going, None),
-            Worked::Bytes(count) => (Worked::Bytes(count), None),
-            Worked::BytesAndTicket(count, ticket) => {
-                (Worked::BytesAndTicket(count, ()), Some(ticket))
-            }
+            Worked::SmallBuffer => (Answer::SmallBuffer, None),
+            Worked::Idle => (Answer::Idle, None),
+            Worked::Going => (Answer::Going, None),
+            Worked::Bytes(count) => (Answer::Bytes(count), None),
+            Worked::BytesAndTicket(count, ticket) => (Answer::BytesAndTicket(count), Some(ticket)),
         }
     }
 }

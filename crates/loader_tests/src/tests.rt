@@ -77,9 +77,9 @@ fn no_page_opens_at_once(rt: HostRuntime) {
     let _ = send(&mut loader, b"\x5A", &mut opened);
     let _ = send(&mut loader, GET_LEVEL, &mut opened);
     let flash = off(loader, None);
-    assert_eq!(rt; protected, Answer::BytesAndTicket(4, ()));
+    assert_eq!(rt; protected, Answer::BytesAndTicket(4));
     assert!(rt; &locked[0..7] == b"\xB3\x90\x00\x01\x01\xE1\xF1".as_slice());
-    assert_eq!(rt; unprotected, Answer::BytesAndTicket(4, ()));
+    assert_eq!(rt; unprotected, Answer::BytesAndTicket(4));
     assert!(rt; &buffer[0..4] == DONE);
     assert!(rt; &opened[0..7] == b"\xB3\x90\x00\x01\x00\xF0\x78".as_slice());
     assert_eq!(rt; flash.option_word(0), Ok(0xAA));
@@ -149,11 +149,11 @@ fn two_chips_locked_and_opened(rt: HostRuntime) {
     let _ = send(&mut loader, b"\x5A", &mut blank);
     let _ = send(&mut loader, READ_4, &mut blank);
     let flash = off(loader, None);
-    assert_eq!(rt; protected, Answer::BytesAndTicket(4, ()));
+    assert_eq!(rt; protected, Answer::BytesAndTicket(4));
     assert!(rt; &locked[0..4] == b"\xB3\x63\x00\x00".as_slice());
     assert_eq!(rt; taken, Received::TakenUp);
     assert_eq!(rt; eighth, Answer::Going);
-    assert_eq!(rt; ninth, Answer::BytesAndTicket(4, ()));
+    assert_eq!(rt; ninth, Answer::BytesAndTicket(4));
     assert!(rt; &blank[0..10] == b"\xB3\x90\x00\x04\xFF\xFF\xFF\xFF\x0F\x47".as_slice());
     assert_eq!(rt; flash.word(1023), Ok(BLANK));
 }
@@ -232,8 +232,8 @@ fn a_ticket_of_another_part(rt: HostRuntime) {
     let again = send(&mut other, b"\x5A", &mut buffer);
     let _ = off(this, None);
     let _ = off(other, None);
-    assert_eq!(rt; said, Answer::BytesAndTicket(4, ()));
-    assert_eq!(rt; other_said, Answer::BytesAndTicket(4, ()));
+    assert_eq!(rt; said, Answer::BytesAndTicket(4));
+    assert_eq!(rt; other_said, Answer::BytesAndTicket(4));
     assert_eq!(rt; heard, Received::Bytes(1));
     assert!(rt; &level[0..7] == b"\xB3\x90\x00\x01\x01\xE1\xF1".as_slice());
     assert_eq!(rt; deaf, Received::Quiet);
@@ -253,7 +253,7 @@ fn off_gives_back_the_flash(rt: HostRuntime) {
     let (protected, ticket) = work(&mut loader, &mut buffer);
     let flash = off(loader, ticket);
     assert_eq!(rt; written, Answer::Bytes(4));
-    assert_eq!(rt; protected, Answer::BytesAndTicket(4, ()));
+    assert_eq!(rt; protected, Answer::BytesAndTicket(4));
     assert_eq!(rt; flash.word(0), Ok(0x4433_2211));
     assert_eq!(rt; flash.word(1), Ok(BLANK));
     assert_eq!(rt; flash.option_word(0), Ok(0));

@@ -1,9 +1,9 @@
 -- What a list of events means, and what rows say, in the words of the part.
 use Rattle.std.specs.Prelude.{ℕ, List, map, take, vec_items}
+use Rattle.loader.specs.declared.answers.Answer.{Answer}
+use Rattle.loader.specs.declared.answers.Answer.TheVariants as answer
 use Rattle.loader.specs.declared.answers.Received.{Received}
 use Rattle.loader.specs.declared.answers.Received.TheVariants as received
-use Rattle.loader.specs.declared.answers.Worked.{Worked}
-use Rattle.loader.specs.declared.answers.Worked.TheVariants as worked
 use Rattle.part.specs.Events as part
 use Rattle.part.specs.Parts.{Part}
 use Rattle.runs.specs.declared.events.Event.{Event}
@@ -51,9 +51,9 @@ byte_answer received.Quiet buffer = part.silent
 byte_answer received.TakenUp buffer = part.accepted
 byte_answer (received.Bytes count) buffer = part.bytes (take count buffer)
 
-abbrev pub work_answer : {T : Type 0} → Worked T → List ℕ → part.Said
-work_answer worked.SmallBuffer buffer = part.small_buffer
-work_answer worked.Idle buffer = part.resting
-work_answer worked.Going buffer = part.ongoing
-work_answer (worked.Bytes count) buffer = part.bytes (take count buffer)
-work_answer (worked.BytesAndTicket count ticket) buffer = part.bytes_and_ticket (take count buffer)
+abbrev pub work_answer : Answer → List ℕ → part.Said
+work_answer answer.SmallBuffer buffer = part.small_buffer
+work_answer answer.Idle buffer = part.resting
+work_answer answer.Going buffer = part.ongoing
+work_answer (answer.Bytes count) buffer = part.bytes (take count buffer)
+work_answer (answer.BytesAndTicket count) buffer = part.bytes_and_ticket (take count buffer)

@@ -36,7 +36,7 @@ fn said_of_work(answer: Answer, mut buffer: Vec<u8>) -> Said
             buffer.truncate(count);
             Said::Bytes(buffer)
         }
-        Answer::BytesAndTicket(count, ()) => {
+        Answer::BytesAndTicket(count) => {
             buffer.truncate(count);
             Said::BytesAndTicket(buffer)
         }

@@ -5,7 +5,7 @@ ghost use Rattle.part.specs.Events.{after_portion, next_portion, work_leaves, wo
 ghost use Rattle.receiver.specs.declared.state.State.TheVariants.{Busy};
 ghost use Rattle.receiver.specs.States.{ticket_for};
 ghost use Rattle.loader.specs.AnswerBuffers.{Puts};
-ghost use Rattle.loader.specs.Loaders.{part_of, worked_as, said_bytes, unspent};
+ghost use Rattle.loader.specs.Loaders.{part_of, worked_as, said_bytes};
 
 use crate::answer_buffer::AnswerBuffer;
 use crate::answers::Worked;
@@ -22,7 +22,7 @@ impl<F: Flash> Loader<F> {
     fn go_on(&mut self, task: BoundedTask, buffer: &mut AnswerBuffer<'_>) -> Worked
         requires busy { self.old.receiver.state ≡ Busy task }
         requires no_ticket { ticket_for task.task ≡ false }
-        ensures answers { result ≡ worked_as unspent (work_said (next_portion (part_of F.meaning self.old)).outcome) }
+        ensures answers { result ≡ worked_as (work_said (next_portion (part_of F.meaning self.old)).outcome) }
         ensures leaves { part_of F.meaning self.new ≡ after_portion (part_of F.meaning self.old) (next_portion (part_of F.meaning self.old)) }
         ensures puts { Puts (said_bytes (work_said (next_portion (part_of F.meaning self.old)).outcome)) buffer.old buffer.new }
     {
@@ -55,7 +55,7 @@ impl<F: Flash> Loader<F> {
 
     // Does the next portion of the command in hand, if there is one.
     pub fn work(&mut self, buffer: &mut [u8]) -> Worked
-        ensures answers_as_defined { result ≡ worked_as unspent (work_says (part_of F.meaning self.old) (length buffer.old)) }
+        ensures answers_as_defined { result ≡ worked_as (work_says (part_of F.meaning self.old) (length buffer.old)) }
         ensures leaves_the_part_as_defined { part_of F.meaning self.new ≡ work_leaves (part_of F.meaning self.old) (length buffer.old) }
         ensures puts_the_answer_and_no_more { buffer.new ≡ headed (said_bytes (work_says (part_of F.meaning self.old) (length buffer.old))) buffer.old }
     {

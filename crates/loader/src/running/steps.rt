@@ -3,8 +3,8 @@ ghost use Rattle.std.specs.Prelude.{◌≡◌, length};
 ghost use Rattle.frame.specs.Layout.{headed};
 ghost use Rattle.part.specs.Events.{byte_leaves, byte_says, work_leaves, work_says, reset_leaves};
 ghost use Rattle.part.specs.Parts.{started};
-ghost use Rattle.loader.specs.Loaders.{received_as, said_bytes, worked_as};
-ghost use Rattle.loader.specs.Runs.{part_running};
+ghost use Rattle.loader.specs.Loaders.{received_as, said_bytes};
+ghost use Rattle.loader.specs.Runs.{part_running, answered_as};
 
 use crate::answers::{Answer, Received};
 use crate::loader::Loader;
@@ -35,7 +35,7 @@ impl<F: Flash> Running<F> {
 
     // One work call. A ticket that comes is kept.
     pub fn work(&mut self, buffer: &mut [u8]) -> Answer
-        ensures answers_as_defined { result ≡ worked_as tt (work_says (part_running F.meaning self.old) (length buffer.old)) }
+        ensures answers_as_defined { result ≡ answered_as (work_says (part_running F.meaning self.old) (length buffer.old)) }
         ensures leaves_the_part_as_defined { part_running F.meaning self.new ≡ work_leaves (part_running F.meaning self.old) (length buffer.old) }
         ensures puts_the_answer_and_no_more { buffer.new ≡ headed (said_bytes (work_says (part_running F.meaning self.old) (length buffer.old))) buffer.old }
     {
