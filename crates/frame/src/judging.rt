@@ -47,6 +47,7 @@ fn command_of<'a>(kind: Kind, bytes: &'a [u8]) -> Result<Command<'a>, Refusal>
 }
 
 // Place 6 for a command.
+#[inline(always)]
 fn command_misaligned(command: Command<'_>) -> bool
     ensures { result ≡ misaligned (asked command.entry) }
 {
@@ -58,6 +59,7 @@ fn command_misaligned(command: Command<'_>) -> bool
 }
 
 // Place 7 for a command.
+#[inline(always)]
 fn command_unknown(command: Command<'_>) -> bool
     ensures { result ≡ wrong_parameter (asked command.entry) }
 {
@@ -71,6 +73,7 @@ fn command_unknown(command: Command<'_>) -> bool
 }
 
 // Place 8 for a command.
+#[inline(always)]
 fn command_beyond(command: Command<'_>, pages: u32) -> bool
     ensures { result ≡ out_of_range pages (asked command.entry) }
 {
