@@ -61,7 +61,7 @@ received_as (bytes_and_ticket bs) = received.Quiet
 received_as (fault report) = received.Quiet
 
 -- the same of a work call; the cases that none has are given as idle
-abbrev pub worked_as : Said → Worked
+abbrev pub worked_as : Said → Worked Ticket
 worked_as nothing = worked.Idle
 worked_as small_buffer = worked.SmallBuffer
 worked_as silent = worked.Idle

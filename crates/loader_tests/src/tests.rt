@@ -1,6 +1,6 @@
 use crate::driving::{Board, PairBoard, restart, send, serve, work, work_on};
 use flash::{Asked, Cause, Flash, FlashFault};
-use loader::{Answer, Received, off};
+use loader::{Answer, Received, Worked, off};
 use memory::MemoryFault;
 use part::CommandFault;
 
@@ -288,4 +288,37 @@ fn what_get_tells(rt: HostRuntime) {
     );
     assert!(rt; &version[0..10] == b"\xB3\x90\x00\x04\x01\x02\x00\x00\x55\xDD".as_slice());
     assert!(rt; &device[0..12] == b"\xB3\x90\x00\x06\xA1\xB2\x00\x04\x03\x04\x34\x47".as_slice());
+}
+
+// A work call's answer held with a number in the ticket's place.
+#[test]
+fn a_number_in_the_place_of_the_ticket(rt: HostRuntime) {
+    let (small, no_number) = Worked::<u32>::SmallBuffer.split();
+    let (idle, idle_number) = Worked::<u32>::Idle.split();
+    let (going, going_number) = Worked::<u32>::Going.split();
+    let (done, done_number) = Worked::<u32>::Bytes(4).split();
+    let this = Worked::BytesAndTicket(4, 7);
+    let other = Worked::BytesAndTicket(4, 8);
+    let alike = this == other;
+    let (written, number) = this.split();
+    let (_, other_number) = other.split();
+    assert_eq!(rt; (small, no_number), (Answer::SmallBuffer, None));
+    assert_eq!(rt; (idle, idle_number), (Answer::Idle, None));
+    assert_eq!(rt; (going, going_number), (Answer::Going, None));
+    assert_eq!(rt; (done, done_number), (Answer::Bytes(4), None));
+    assert_eq!(rt; (written, number), (Answer::BytesAndTicket(4), Some(7u32)));
+    assert_eq!(rt; other_number, Some(8));
+    assert!(rt; !alike);
+}
+
+#[test]
+fn whether_a_ticket_came(rt: HostRuntime) {
+    assert_eq!(rt; Answer::SmallBuffer.split(), (Answer::SmallBuffer, None));
+    assert_eq!(rt; Answer::Idle.split(), (Answer::Idle, None));
+    assert_eq!(rt; Answer::Going.split(), (Answer::Going, None));
+    assert_eq!(rt; Answer::Bytes(4).split(), (Answer::Bytes(4), None));
+    assert_eq!(rt;
+        Answer::BytesAndTicket(4).split(),
+        (Answer::BytesAndTicket(4), Some(()))
+    );
 }
